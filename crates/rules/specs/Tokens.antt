@@ -1,0 +1,103 @@
+-- Document 01, "Rules of the log and the tokens": marks, what is undone, and what lies since a snapshot.
+use mathlib.Core.Bool.{Bool, true, false, cond, _&&_, _||_}
+use mathlib.Core.List.{List, [], _∷_}
+use Prim.Native.Nat.{ℕ, zero, suc, _+_, _-_}
+use lib.ListN.{set, take, drop}
+use lib.Dec.{eqb, ltb}
+use Rattle.rules.specs.declared.table.UndoLog.{UndoLog}
+use Rattle.rules.specs.declared.table.UndoLog.the-variants.{NewElem, SetElem, Unknown}
+use Rattle.rules.specs.declared.table.Mark.{Mark}
+use Rattle.rules.specs.declared.table.State.{State}
+use Rattle.rules.specs.Lent.{Rows, Log, entryAt, putRow, mark, markAt, counting}
+
+-- "A snapshot's mark holds a serial, log length and key count. The token is the serial: first 1, then one more each time, never
+-- taken back by rollback or commit."
+abbrev pub marked : State → State
+marked s =
+    record {
+      count = s .count;
+      used = s .used;
+      «open» = s .«open» + 1;
+      last = s .last + 1;
+      marks = set (s .marks) (s .«open») (mark (s .last + 1) (s .used) (s .count));
+    }
+
+-- ---- the innermost mark, and the one that a token names
+
+abbrev pub innermost : State → Mark
+innermost s = markAt s (s .«open» - 1)
+
+-- NOT_INNERMOST: "rollback or commit: no snapshot open, or the token isn't the innermost one's"
+abbrev pub notInnermost : State → ℕ → Bool
+notInnermost s token = cond (eqb (s .«open») 0) true (cond (eqb (innermost s .serial) token) false true)
+
+pub data Sought : Type 0 where
+  missing : Sought
+  held : Mark → Sought
+
+-- NOT_OPEN: "a token not among the open ones". "If a damaged state has a serial twice, the innermost such mark counts."
+unfoldable pub seek : State → ℕ → ℕ → Sought
+seek s token zero = missing
+seek s token (suc n) = cond (eqb (markAt s n .serial) token) (held (markAt s n)) (seek s token n)
+
+-- BROKEN_TABLE: "the mark used has a log length above used or a key count above the count"
+abbrev pub unfit : State → Mark → Bool
+unfit s m = ltb (s .used) (m .«log_len») || ltb (s .count) (m .keys)
+
+-- ---- rollback and commit
+
+-- The `n` entries from `base` on, "newest first".
+unfoldable pub newestFirst : Log → ℕ → ℕ → List UndoLog
+newestFirst l base zero = []
+newestFirst l base (suc n) = entryAt l (base + n) ∷ newestFirst l base n
+
+-- The entries down to the mark's log length.
+abbrev pub since : Log → State → Mark → List UndoLog
+since l s m = newestFirst l (m .«log_len») (s .used - m .«log_len»)
+
+-- BROKEN_TABLE: "an entry to be undone, newest first, is of no known kind, names a changed row not below the count then reached,
+-- or a new row other than the last, or the count left differs from the mark's". From `count` down to `keys`:
+unfoldable pub undoable : ℕ → ℕ → List UndoLog → Bool
+undoable keys count [] = eqb count keys
+undoable keys count (NewElem key ∷ es) = eqb (key + 1) count && undoable keys key es
+undoable keys count (SetElem key old ∷ es) = ltb key count && undoable keys count es
+undoable keys count (Unknown ∷ es) = false
+
+-- The rows after the entries are undone. A new key's row keeps what it holds.
+unfoldable pub undo : Rows → List UndoLog → Rows
+undo rs [] = rs
+undo rs (NewElem key ∷ es) = undo rs es
+undo rs (SetElem key old ∷ es) = undo (putRow rs key old) es
+undo rs (Unknown ∷ es) = undo rs es
+
+-- "Rollback undoes entries newest first down to the mark's log length and drops the mark."
+abbrev pub rolledBack : State → Mark → State
+rolledBack s m = counting s (m .keys) (m .«log_len») (s .«open» - 1)
+
+-- "Commit drops the mark and keeps the entries; committing the only open one empties the log."
+abbrev pub committed : State → State
+committed s = counting s (s .count) (cond (eqb (s .«open») 1) 0 (s .used)) (s .«open» - 1)
+
+-- BROKEN_TABLE: "the only open mark has a log length other than 0 at commit"
+abbrev pub stranded : State → Mark → Bool
+stranded s m = eqb (s .«open») 1 && ltb 0 (m .«log_len»)
+
+-- ---- the view
+
+-- "Actions since a snapshot are shown as a view of the log from the mark's length to its used end": entry i of the view is
+-- `entryAt` of this part. Past its end, that is `Unknown`.
+abbrev pub part : ℕ → ℕ → List ℕ → List ℕ
+part a e l = take (e - a) (drop a l)
+
+abbrev pub viewed : Log → ℕ → ℕ → Log
+viewed l a e =
+    record {
+      kinds = part a e (l .kinds);
+      keys = part a e (l .keys);
+      old = record {
+        parents = part a e (l .old .parents);
+        ranks = part a e (l .old .ranks);
+        owners = part a e (l .old .owners);
+        amounts = part a e (l .old .amounts);
+      };
+    }
