@@ -10,7 +10,8 @@ use Rattle.rules.specs.Lent.{Rows, Log, Table, table, fresh, numberOf, r
 use Rattle.rules.specs.Merge.{merge}
 use Rattle.rules.specs.Walk.{path}
 use Rattle.rules.specs.Write.{writes, puts}
-use Rattle.rules.specs.Plan.{refusal, rewrites}
+use Rattle.rules.specs.Answer.{refusal}
+use Rattle.rules.specs.Plan.{rewrites}
 use Rattle.rules.specs.Tokens.{seek, newestFirst, undoable, undo}
 use Rattle.rules.specs.Refusal.{Outcome, outcome, bad}
 use Rattle.rules.specs.Step.{call, step}

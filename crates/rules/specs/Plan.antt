@@ -9,39 +9,11 @@ use Rattle.rules.specs.declared.table.Value.{Value}
 use Rattle.rules.specs.declared.table.Merged.{Merged}
 use Rattle.rules.specs.declared.table.Merged.the-variants.{Clash, TooMuch, Both}
 use Rattle.rules.specs.Numbers.{DONE, BROKEN-TABLE, OWNER-CLASH, TOO-MUCH, MAX-REDIRECTS, MAX-RANK}
-use Rattle.rules.specs.Lent.{Rows, none, valueOf, rowAt}
+use Rattle.rules.specs.Lent.{Rows, valueOf, rowAt}
+use Rattle.rules.specs.Answer.{answer, refusal, stepped, found, probed, said}
 use Rattle.rules.specs.Merge.{merge}
 use Rattle.rules.specs.Walk.{Path, broken, to, path, steps}
 use Rattle.rules.specs.Write.{Write, redirect, crown, writes}
-
--- ---- answers
-
--- number, key, token, owner and amount, steps, yes, from, to
-abbrev pub answer : ℕ → ℕ → ℕ → Value → ℕ → Bool → ℕ → ℕ → Answer
-answer n k t v s y f e =
-    record { no = n; key = k; token = t; owner = v .owner; amount = v .amount; steps = s; yes = y; from = f; to = e }
-
--- "A refusal answers key 0, token 0, no owner, amount 0, steps 0, no where a yes or no is asked, nothing for
--- `try_probe_value`, the range 0 to 0 or an empty view".
-abbrev pub refusal : ℕ → Answer
-refusal n = answer n 0 0 none 0 false 0 0
-
--- DONE, 4 and 5 report steps: "the walks' rewrites and their entries stay, as in the Rust, and steps are reported."
-abbrev pub stepped : ℕ → ℕ → Answer
-stepped n s = answer n 0 0 none s false 0 0
-
--- "On DONE a call answers what its Rust namesake returns .. and the steps of its walks; the rest is as in a refusal."
-abbrev pub found : ℕ → ℕ → Answer
-found root s = answer DONE root 0 none s false 0 0
-
-abbrev pub probed : ℕ → Value → ℕ → Answer
-probed root v s = answer DONE root 0 v s false 0 0
-
-abbrev pub said : Bool → ℕ → Answer
-said y s = answer DONE 0 0 none s y 0 0
-
-abbrev pub range : ℕ → ℕ → Answer
-range f e = answer DONE 0 0 none 0 false f e
 
 -- ---- plans
 
@@ -116,19 +88,19 @@ tooHigh rs a b = ltb MAX-RANK (rowAt rs a .rank) || ltb MAX-RANK (rowAt rs b .ra
 abbrev pub joinPlan : Rows → ℕ → ℕ → ℕ → Plan
 joinPlan rs count a b =
     walkBoth rs count a b (λ v w.
-      let rs′ = w .rows in
-      let walked = v .todo ++ w .todo in
-      let s = v .steps + w .steps in
-      cond (eqb (v .root) (w .root)) (plan (stepped DONE s) walked)
-      (cond (tooHigh rs′ (v .root) (w .root)) (plan (refusal BROKEN-TABLE) [])
-      (settle walked s (unite rs′ (v .root) (w .root)) (merge (valueOf (rowAt rs′ (v .root))) (valueOf (rowAt rs′ (w .root)))))))
+    let rs′ = w .rows in
+    let walked = v .todo ++ w .todo in
+    let s = v .steps + w .steps in
+    cond (eqb (v .root) (w .root)) (plan (stepped DONE s) walked)
+    (cond (tooHigh rs′ (v .root) (w .root)) (plan (refusal BROKEN-TABLE) [])
+    (settle walked s (unite rs′ (v .root) (w .root)) (merge (valueOf (rowAt rs′ (v .root))) (valueOf (rowAt rs′ (w .root)))))))
 
 -- Post: "walk, merge the root's value with the given one, write owner and amount."
 abbrev pub postPlan : Rows → ℕ → ℕ → Value → Plan
 postPlan rs count key v =
     walk rs count key (λ w.
-      let root = rowAt (w .rows) (w .root) in
-      settle (w .todo) (w .steps) (λ merged. crown (w .root) (root .rank) merged ∷ []) (merge (valueOf root) v))
+    let root = rowAt (w .rows) (w .root) in
+    settle (w .todo) (w .steps) (λ merged. crown (w .root) (root .rank) merged ∷ []) (merge (valueOf root) v))
 
 abbrev pub probePlan : Rows → ℕ → ℕ → Plan
 probePlan rs count key = walk rs count key (λ w. plan (probed 0 (valueOf (rowAt (w .rows) (w .root))) (w .steps)) (w .todo))

@@ -9,7 +9,8 @@ use Rattle.rules.specs.declared.table.State.{State}
 use Rattle.rules.specs.Numbers.{LOG-FULL, MAX-ROWS, MAX-ENTRIES, MAX-OPEN}
 use Rattle.rules.specs.Lent.{Rows, Log, Table}
 use Rattle.rules.specs.Write.{memoryOf, withMemory, full, puts}
-use Rattle.rules.specs.Plan.{Plan, refusal}
+use Rattle.rules.specs.Answer.{refusal}
+use Rattle.rules.specs.Plan.{Plan}
 
 -- What a call answers, and all of the table as it leaves it.
 pub record Outcome : Type 0 where

@@ -1,27 +1,27 @@
 -- Document 01, call by call: the order of refusals is "9, then 1 (first key, then second), 6 or 11, 7, 10, 2, 8, 3, 4, 5."
-use mathlib.Core.Bool.{Bool, true, false, cond, not, _||_}
-use mathlib.Core.List.{List, [], _∷_}
+use mathlib.Core.Bool.{Bool, not, _||_}
 use Prim.Native.Nat.{ℕ, _+_}
 use lib.ListN.{length}
 use lib.Dec.{eqb, ltb, leb}
 use Rattle.rules.specs.declared.call.Call.{Call}
 use Rattle.rules.specs.declared.call.Call.the-variants.{New, Len, Find, Unioned, Join, Post, Probe, ProbeKey, TryProbe, Snapshot, Rollback, Commit, Keys, Actions, Changes}
-use Rattle.rules.specs.declared.call.Answer.{Answer}
-use Rattle.rules.specs.declared.table.Mark.{Mark}
+use Rattle.rules.specs.declared.call.Answered.{Answered}
 use Rattle.rules.specs.declared.table.Value.{Value}
 use Rattle.rules.specs.declared.table.UndoLog.the-variants.{NewElem}
-use Rattle.rules.specs.Numbers.{DONE, NO-KEY, KEYS-FULL, LOG-FULL, NOT-INNERMOST, TOO-DEEP, BROKEN-TABLE, BAD-STATE, SERIALS-SPENT, NOT-OPEN, MAX-OPEN, MAX-U64}
-use Rattle.rules.specs.Lent.{Table, table, none, ownerOf, value, row, putRow, counting}
+use Rattle.rules.specs.Numbers.{DONE, NO-KEY, KEYS-FULL, LOG-FULL, NOT-INNERMOST, BROKEN-TABLE, BAD-STATE}
+use Rattle.rules.specs.Lent.{Table, table, ownerOf, value, row, putRow, counting}
+use Rattle.rules.specs.Answer.{refusal, found, said, range, answered}
 use Rattle.rules.specs.Write.{memoryOf, logged, full}
-use Rattle.rules.specs.Plan.{Plan, answer, refusal, found, said, range, findPlan, unionedPlan, joinPlan, postPlan, probePlan, probeKeyPlan, tryProbePlan}
-use Rattle.rules.specs.Tokens.{Sought, missing, held, marked, innermost, notInnermost, seek, unfit, since, undoable, undo, rolledBack, committed, stranded}
-use Rattle.rules.specs.Refusal.{Outcome, outcome, refused, refuse, carry, sizesOf, bad}
+use Rattle.rules.specs.Plan.{Plan, findPlan, unionedPlan, joinPlan, postPlan, probePlan, probeKeyPlan, tryProbePlan}
+use Rattle.rules.specs.Tokens.{snapshot, commit, ask, innermost, notInnermost, unfit, since, undoable, undo, rolledBack}
+use Rattle.rules.specs.Refusal.{Outcome, outcome, refuse, carry, sizesOf, bad}
 
 -- NO_KEY: "a named key is not below the count"
 abbrev pub notLive : Table → ℕ → Bool
 notLive t key = leb (t .state .count) key
 
--- The table with one key more, a root of rank 0: "`new` writes all four numbers, an entry all six" (docs/DECISIONS.md, 14).
+-- The table with one key more, a root of rank 0. "a new key logs its index". All four numbers of the row are written, whatever they
+-- held (docs/DECISIONS.md, 14).
 abbrev pub grown : Table → Value → Table
 grown t v =
     let key = t .state .count in
@@ -41,11 +41,9 @@ one t key p = refuse (notLive t key) NO-KEY t (carry t p)
 abbrev pub two : Table → ℕ → ℕ → Plan → Outcome
 two t a b p = refuse (notLive t a || notLive t b) NO-KEY t (carry t p)
 
-abbrev pub snapshot : Table → Outcome
-snapshot t =
-    refuse (eqb (t .state .«open») MAX-OPEN) TOO-DEEP t
-    (refuse (eqb (t .state .last) MAX-U64) SERIALS-SPENT t
-    (outcome (answer DONE 0 (t .state .last + 1) none 0 false 0 0) (table (t .rows) (t .log) (marked (t .state)))))
+-- A call that leaves rows and log alone.
+abbrev pub resting : Table → Answered → Outcome
+resting t r = outcome (r .answer) (table (t .rows) (t .log) (r .state))
 
 abbrev pub rollback : Table → ℕ → Outcome
 rollback t token =
@@ -56,27 +54,11 @@ rollback t token =
     (refuse (unfit s m || not (undoable (m .keys) (s .count) es)) BROKEN-TABLE t
     (outcome (refusal DONE) (table (undo (t .rows) es) (t .log) (rolledBack s m))))
 
-abbrev pub commit : Table → ℕ → Outcome
-commit t token =
-    let s = t .state in
-    let m = innermost s in
-    refuse (notInnermost s token) NOT-INNERMOST t
-    (refuse (unfit s m || stranded s m) BROKEN-TABLE t
-    (outcome (refusal DONE) (table (t .rows) (t .log) (committed s))))
-
--- A question about the mark that a token names.
-abbrev pub asked : Table → (Mark → Answer) → Sought → Outcome
-asked t reply missing = refused NOT-OPEN t
-asked t reply (held m) = refuse (unfit (t .state) m) BROKEN-TABLE t (outcome (reply m) t)
-
-abbrev pub ask : Table → ℕ → (Mark → Answer) → Outcome
-ask t token reply = asked t reply (seek (t .state) token (t .state .«open»))
-
 -- A call on a table whose state and lent parts are not bad. "Keys since a snapshot are those from the mark's key count up to the
 -- count." "Has-changes is yes exactly when used is above the mark's log length."
 unfoldable pub call : Table → Call → Outcome
 call t (New owner amount) = new t (value (ownerOf owner) amount)
-call t Len = outcome (range 0 (t .state .count)) t
+call t Len = resting t (answered (range 0 (t .state .count)) (t .state))
 call t (Find key) = one t key (findPlan (t .rows) (t .state .count) key)
 call t (Unioned a b) = two t a b (unionedPlan (t .rows) (t .state .count) a b)
 call t (Join a b) = two t a b (joinPlan (t .rows) (t .state .count) a b)
@@ -84,12 +66,12 @@ call t (Post key owner amount) = one t key (postPlan (t .rows) (t .state .count)
 call t (Probe key) = one t key (probePlan (t .rows) (t .state .count) key)
 call t (ProbeKey key) = one t key (probeKeyPlan (t .rows) (t .state .count) key)
 call t (TryProbe key) = one t key (tryProbePlan (t .rows) key)
-call t Snapshot = snapshot t
+call t Snapshot = resting t (snapshot (t .state))
 call t (Rollback token) = rollback t token
-call t (Commit token) = commit t token
-call t (Keys token) = ask t token (λ m. range (m .keys) (t .state .count))
-call t (Actions token) = ask t token (λ m. range (m .«log_len») (t .state .used))
-call t (Changes token) = ask t token (λ m. said (ltb (m .«log_len») (t .state .used)) 0)
+call t (Commit token) = resting t (commit (t .state) token)
+call t (Keys token) = resting t (ask (t .state) token (λ m. range (m .keys) (t .state .count)))
+call t (Actions token) = resting t (ask (t .state) token (λ m. range (m .«log_len») (t .state .used)))
+call t (Changes token) = resting t (ask (t .state) token (λ m. said (ltb (m .«log_len») (t .state .used)) 0))
 
 -- Any call on any table whatever: BAD_STATE comes before all else.
 unfoldable pub step : Table → Call → Outcome

@@ -8,7 +8,11 @@ use Rattle.rules.specs.declared.table.UndoLog.{UndoLog}
 use Rattle.rules.specs.declared.table.UndoLog.the-variants.{NewElem, SetElem, Unknown}
 use Rattle.rules.specs.declared.table.Mark.{Mark}
 use Rattle.rules.specs.declared.table.State.{State}
+use Rattle.rules.specs.declared.call.Answer.{Answer}
+use Rattle.rules.specs.declared.call.Answered.{Answered}
+use Rattle.rules.specs.Numbers.{DONE, NOT-INNERMOST, TOO-DEEP, BROKEN-TABLE, SERIALS-SPENT, NOT-OPEN, MAX-OPEN, MAX-U64}
 use Rattle.rules.specs.Lent.{Rows, Log, entryAt, putRow, mark, markAt, counting}
+use Rattle.rules.specs.Answer.{refusal, opened, answered, refuseState}
 
 -- "A snapshot's mark holds a serial, log length and key count. The token is the serial: first 1, then one more each time, never
 -- taken back by rollback or commit."
@@ -44,7 +48,37 @@ seek s token (suc n) = cond (eqb (markAt s n .serial) token) (held (markAt s n))
 abbrev pub unfit : State → Mark → Bool
 unfit s m = ltb (s .used) (m .«log_len») || ltb (s .count) (m .keys)
 
--- ---- rollback and commit
+-- ---- the calls that neither read nor write rows and entries
+
+abbrev pub snapshot : State → Answered
+snapshot s =
+    refuseState (eqb (s .«open») MAX-OPEN) TOO-DEEP s
+    (refuseState (eqb (s .last) MAX-U64) SERIALS-SPENT s
+    (answered (opened (s .last + 1)) (marked s)))
+
+-- "Commit drops the mark and keeps the entries; committing the only open one empties the log."
+abbrev pub committed : State → State
+committed s = counting s (s .count) (cond (eqb (s .«open») 1) 0 (s .used)) (s .«open» - 1)
+
+-- BROKEN_TABLE: "the only open mark has a log length other than 0 at commit"
+abbrev pub stranded : State → Mark → Bool
+stranded s m = eqb (s .«open») 1 && ltb 0 (m .«log_len»)
+
+abbrev pub commit : State → ℕ → Answered
+commit s token =
+    refuseState (notInnermost s token) NOT-INNERMOST s
+    (refuseState (unfit s (innermost s) || stranded s (innermost s)) BROKEN-TABLE s
+    (answered (refusal DONE) (committed s)))
+
+-- A question about the mark that a token names.
+abbrev pub asked : State → (Mark → Answer) → Sought → Answered
+asked s reply missing = answered (refusal NOT-OPEN) s
+asked s reply (held m) = refuseState (unfit s m) BROKEN-TABLE s (answered (reply m) s)
+
+abbrev pub ask : State → ℕ → (Mark → Answer) → Answered
+ask s token reply = asked s reply (seek s token (s .«open»))
+
+-- ---- rollback
 
 -- The `n` entries from `base` on, "newest first".
 unfoldable pub newestFirst : Log → ℕ → ℕ → List UndoLog
@@ -73,14 +107,6 @@ undo rs (Unknown ∷ es) = undo rs es
 -- "Rollback undoes entries newest first down to the mark's log length and drops the mark."
 abbrev pub rolledBack : State → Mark → State
 rolledBack s m = counting s (m .keys) (m .«log_len») (s .«open» - 1)
-
--- "Commit drops the mark and keeps the entries; committing the only open one empties the log."
-abbrev pub committed : State → State
-committed s = counting s (s .count) (cond (eqb (s .«open») 1) 0 (s .used)) (s .«open» - 1)
-
--- BROKEN_TABLE: "the only open mark has a log length other than 0 at commit"
-abbrev pub stranded : State → Mark → Bool
-stranded s m = eqb (s .«open») 1 && ltb 0 (m .«log_len»)
 
 -- ---- the view
 

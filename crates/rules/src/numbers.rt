@@ -1,8 +1,12 @@
 // Document 01, "Limits".
 pub const MAX_ROWS: usize = 65536;
+
 pub const MAX_ENTRIES: usize = 1048576;
+
 pub const MAX_OPEN: u32 = 32;
+
 pub const MAX_REDIRECTS: u32 = 16;
+
 pub const MAX_RANK: u32 = 16;
 
 // The largest amount, and the last serial.
@@ -10,19 +14,32 @@ pub const MAX_U64: u64 = 18446744073709551615;
 
 // Document 01, "Numbers of refusal".
 pub const DONE: u32 = 0;
+
 pub const NO_KEY: u32 = 1;
+
 pub const KEYS_FULL: u32 = 2;
+
 pub const LOG_FULL: u32 = 3;
+
 pub const OWNER_CLASH: u32 = 4;
+
 pub const TOO_MUCH: u32 = 5;
+
 pub const NOT_INNERMOST: u32 = 6;
+
 pub const TOO_DEEP: u32 = 7;
+
 pub const BROKEN_TABLE: u32 = 8;
+
 pub const BAD_STATE: u32 = 9;
+
 pub const SERIALS_SPENT: u32 = 10;
+
 pub const NOT_OPEN: u32 = 11;
 
 // The kinds of log entries. Every other number is of no known kind.
 pub const KIND_UNKNOWN: u32 = 0;
+
 pub const KIND_NEW: u32 = 1;
+
 pub const KIND_SET: u32 = 2;
