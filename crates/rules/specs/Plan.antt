@@ -60,15 +60,14 @@ settle walked s more Clash = plan (stepped OWNER-CLASH s) walked
 settle walked s more TooMuch = plan (stepped TOO-MUCH s) walked
 settle walked s more (Both v) = plan (stepped DONE s) (walked ++ more v)
 
--- ---- the calls
+-- ---- what each call makes of its walks
 
-abbrev pub findPlan : Rows → ℕ → ℕ → Plan
-findPlan rs count key = walk rs count key (λ w. plan (found (w .root) (w .steps)) (w .todo))
+abbrev pub findOn : Walked → Plan
+findOn w = plan (found (w .root) (w .steps)) (w .todo)
 
 -- "Unioned makes the same two walks, a's first, and no more." "Join and unioned report the sum of both walks' steps".
-abbrev pub unionedPlan : Rows → ℕ → ℕ → ℕ → Plan
-unionedPlan rs count a b =
-    walkBoth rs count a b (λ v w. plan (said (eqb (v .root) (w .root)) (v .steps + w .steps)) (v .todo ++ w .todo))
+abbrev pub unionedOn : Walked → Walked → Plan
+unionedOn v w = plan (said (eqb (v .root) (w .root)) (v .steps + w .steps)) (v .todo ++ w .todo)
 
 -- "Unequal ranks: the lower root redirects to the higher, whose rank stays. Equal ranks: a's root redirects to b's, whose rank
 -- grows by 1. The row that redirects keeps its rank, owner and amount." "A join logs the redirected row, then the new root".
@@ -85,31 +84,30 @@ abbrev pub tooHigh : Rows → ℕ → ℕ → Bool
 tooHigh rs a b = ltb MAX-RANK (rowAt rs a .rank) || ltb MAX-RANK (rowAt rs b .rank)
 
 -- "Equal roots: done, values not merged. Else merge a's root with b's."
-abbrev pub joinPlan : Rows → ℕ → ℕ → ℕ → Plan
-joinPlan rs count a b =
-    walkBoth rs count a b (λ v w.
-    let rs′ = w .rows in
+abbrev pub joinOn : Walked → Walked → Plan
+joinOn v w =
+    let a = v .root in
+    let b = w .root in
     let walked = v .todo ++ w .todo in
     let s = v .steps + w .steps in
-    cond (eqb (v .root) (w .root)) (plan (stepped DONE s) walked)
-    (cond (tooHigh rs′ (v .root) (w .root)) (plan (refusal BROKEN-TABLE) [])
-    (settle walked s (unite rs′ (v .root) (w .root)) (merge (valueOf (rowAt rs′ (v .root))) (valueOf (rowAt rs′ (w .root)))))))
+    cond (eqb a b) (plan (stepped DONE s) walked)
+    (cond (tooHigh (w .rows) a b) (plan (refusal BROKEN-TABLE) [])
+    (settle walked s (unite (w .rows) a b) (merge (valueOf (rowAt (w .rows) a)) (valueOf (rowAt (w .rows) b)))))
 
 -- Post: "walk, merge the root's value with the given one, write owner and amount."
-abbrev pub postPlan : Rows → ℕ → ℕ → Value → Plan
-postPlan rs count key v =
-    walk rs count key (λ w.
+abbrev pub postOn : Value → Walked → Plan
+postOn v w =
     let root = rowAt (w .rows) (w .root) in
-    settle (w .todo) (w .steps) (λ merged. crown (w .root) (root .rank) merged ∷ []) (merge (valueOf root) v))
+    settle (w .todo) (w .steps) (λ merged. crown (w .root) (root .rank) merged ∷ []) (merge (valueOf root) v)
 
-abbrev pub probePlan : Rows → ℕ → ℕ → Plan
-probePlan rs count key = walk rs count key (λ w. plan (probed 0 (valueOf (rowAt (w .rows) (w .root))) (w .steps)) (w .todo))
+abbrev pub probeOn : Walked → Plan
+probeOn w = plan (probed 0 (valueOf (rowAt (w .rows) (w .root))) (w .steps)) (w .todo)
 
-abbrev pub probeKeyPlan : Rows → ℕ → ℕ → Plan
-probeKeyPlan rs count key = walk rs count key (λ w. plan (probed (w .root) (valueOf (rowAt (w .rows) (w .root))) (w .steps)) (w .todo))
+abbrev pub probeKeyOn : Walked → Plan
+probeKeyOn w = plan (probed (w .root) (valueOf (rowAt (w .rows) (w .root))) (w .steps)) (w .todo)
 
 -- `try_probe_value`: "no walk; the value where the row is a root, else nothing, an answer told apart from every value."
-abbrev pub tryProbePlan : Rows → ℕ → Plan
-tryProbePlan rs key =
+abbrev pub tryProbe : Rows → ℕ → Plan
+tryProbe rs key =
     let r = rowAt rs key in
     plan (cond (eqb (r .parent) key) (answer DONE 0 0 (valueOf r) 0 true 0 0) (said false 0)) []

@@ -12,7 +12,7 @@ use Rattle.rules.specs.Numbers.{DONE, NO-KEY, KEYS-FULL, LOG-FULL, NOT-I
 use Rattle.rules.specs.Lent.{Table, table, ownerOf, value, row, putRow, counting}
 use Rattle.rules.specs.Answer.{refusal, found, said, range, answered}
 use Rattle.rules.specs.Write.{memoryOf, logged, full}
-use Rattle.rules.specs.Plan.{Plan, findPlan, unionedPlan, joinPlan, postPlan, probePlan, probeKeyPlan, tryProbePlan}
+use Rattle.rules.specs.Plan.{Plan, Walked, walk, walkBoth, findOn, unionedOn, joinOn, postOn, probeOn, probeKeyOn, tryProbe}
 use Rattle.rules.specs.Tokens.{snapshot, commit, ask, innermost, notInnermost, unfit, since, undoable, undo, rolledBack}
 use Rattle.rules.specs.Refusal.{Outcome, outcome, refuse, carry, sizesOf, bad}
 
@@ -34,12 +34,15 @@ new t v =
     (refuse (full (memoryOf t) 1) LOG-FULL t
     (outcome (found (t .state .count) 0) (grown t v)))
 
--- A call on rows that names one key, or two.
-abbrev pub one : Table → ℕ → Plan → Outcome
-one t key p = refuse (notLive t key) NO-KEY t (carry t p)
+-- A call on rows that names one key, or two: what is made of the walks is carried out.
+abbrev pub live : Table → ℕ → Plan → Outcome
+live t key p = refuse (notLive t key) NO-KEY t (carry t p)
 
-abbrev pub two : Table → ℕ → ℕ → Plan → Outcome
-two t a b p = refuse (notLive t a || notLive t b) NO-KEY t (carry t p)
+abbrev pub one : Table → ℕ → (Walked → Plan) → Outcome
+one t key next = live t key (walk (t .rows) (t .state .count) key next)
+
+abbrev pub two : Table → ℕ → ℕ → (Walked → Walked → Plan) → Outcome
+two t a b next = refuse (notLive t a || notLive t b) NO-KEY t (carry t (walkBoth (t .rows) (t .state .count) a b next))
 
 -- A call that leaves rows and log alone.
 abbrev pub resting : Table → Answered → Outcome
@@ -59,13 +62,13 @@ rollback t token =
 unfoldable pub call : Table → Call → Outcome
 call t (New owner amount) = new t (value (ownerOf owner) amount)
 call t Len = resting t (answered (range 0 (t .state .count)) (t .state))
-call t (Find key) = one t key (findPlan (t .rows) (t .state .count) key)
-call t (Unioned a b) = two t a b (unionedPlan (t .rows) (t .state .count) a b)
-call t (Join a b) = two t a b (joinPlan (t .rows) (t .state .count) a b)
-call t (Post key owner amount) = one t key (postPlan (t .rows) (t .state .count) key (value (ownerOf owner) amount))
-call t (Probe key) = one t key (probePlan (t .rows) (t .state .count) key)
-call t (ProbeKey key) = one t key (probeKeyPlan (t .rows) (t .state .count) key)
-call t (TryProbe key) = one t key (tryProbePlan (t .rows) key)
+call t (Find key) = one t key findOn
+call t (Unioned a b) = two t a b unionedOn
+call t (Join a b) = two t a b joinOn
+call t (Post key owner amount) = one t key (postOn (value (ownerOf owner) amount))
+call t (Probe key) = one t key probeOn
+call t (ProbeKey key) = one t key probeKeyOn
+call t (TryProbe key) = live t key (tryProbe (t .rows) key)
 call t Snapshot = resting t (snapshot (t .state))
 call t (Rollback token) = rollback t token
 call t (Commit token) = resting t (commit (t .state) token)
