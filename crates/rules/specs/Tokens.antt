@@ -7,6 +7,8 @@ use lib.Dec.{eqb, ltb}
 use Rattle.rules.specs.declared.table.UndoLog.{UndoLog}
 use Rattle.rules.specs.declared.table.UndoLog.the-variants.{NewElem, SetElem, Unknown}
 use Rattle.rules.specs.declared.table.Mark.{Mark}
+use Rattle.rules.specs.declared.table.Sought.{Sought}
+use Rattle.rules.specs.declared.table.Sought.the-variants.{Missing, Held}
 use Rattle.rules.specs.declared.table.State.{State}
 use Rattle.rules.specs.declared.call.Answer.{Answer}
 use Rattle.rules.specs.declared.call.Answered.{Answered}
@@ -35,14 +37,10 @@ innermost s = markAt s (s .«open» - 1)
 abbrev pub notInnermost : State → ℕ → Bool
 notInnermost s token = cond (eqb (s .«open») 0) true (cond (eqb (innermost s .serial) token) false true)
 
-pub data Sought : Type 0 where
-  missing : Sought
-  held : Mark → Sought
-
 -- NOT_OPEN: "a token not among the open ones". "If a damaged state has a serial twice, the innermost such mark counts."
 unfoldable pub seek : State → ℕ → ℕ → Sought
-seek s token zero = missing
-seek s token (suc n) = cond (eqb (markAt s n .serial) token) (held (markAt s n)) (seek s token n)
+seek s token zero = Missing
+seek s token (suc n) = cond (eqb (markAt s n .serial) token) (Held (markAt s n)) (seek s token n)
 
 -- BROKEN_TABLE: "the mark used has a log length above used or a key count above the count"
 abbrev pub unfit : State → Mark → Bool
@@ -72,8 +70,8 @@ commit s token =
 
 -- A question about the mark that a token names.
 abbrev pub asked : State → (Mark → Answer) → Sought → Answered
-asked s reply missing = answered (refusal NOT-OPEN) s
-asked s reply (held m) = refuseState (unfit s m) BROKEN-TABLE s (answered (reply m) s)
+asked s reply Missing = answered (refusal NOT-OPEN) s
+asked s reply (Held m) = refuseState (unfit s m) BROKEN-TABLE s (answered (reply m) s)
 
 abbrev pub ask : State → ℕ → (Mark → Answer) → Answered
 ask s token reply = asked s reply (seek s token (s .«open»))
@@ -97,12 +95,15 @@ undoable keys count (NewElem key ∷ es) = eqb (key + 1) count && undoable keys 
 undoable keys count (SetElem key old ∷ es) = ltb key count && undoable keys count es
 undoable keys count (Unknown ∷ es) = false
 
--- The rows after the entries are undone. A new key's row keeps what it holds.
+-- One entry is undone. A new key's row keeps what it holds.
+abbrev pub reversed : Rows → UndoLog → Rows
+reversed rs (NewElem key) = rs
+reversed rs (SetElem key old) = putRow rs key old
+reversed rs Unknown = rs
+
 unfoldable pub undo : Rows → List UndoLog → Rows
 undo rs [] = rs
-undo rs (NewElem key ∷ es) = undo rs es
-undo rs (SetElem key old ∷ es) = undo (putRow rs key old) es
-undo rs (Unknown ∷ es) = undo rs es
+undo rs (e ∷ es) = undo (reversed rs e) es
 
 -- "Rollback undoes entries newest first down to the mark's log length and drops the mark."
 abbrev pub rolledBack : State → Mark → State

@@ -40,6 +40,12 @@ pub struct Mark {
     pub keys: u32,
 }
 
+// The mark that a token names, where it is open.
+pub enum Sought {
+    Missing,
+    Held(Mark),
+}
+
 // All of a table that is not lent. `marks[0]` is the outermost snapshot's.
 pub struct State {
     pub count: u32,
