@@ -1,2 +1,3 @@
 -- What is proved of the definitions.
 pub mod Examples
+pub mod RowLaws
