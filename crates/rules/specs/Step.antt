@@ -7,11 +7,10 @@ use Rattle.rules.specs.declared.call.Call.{Call}
 use Rattle.rules.specs.declared.call.Call.the-variants.{New, Len, Find, Unioned, Join, Post, Probe, ProbeKey, TryProbe, Snapshot, Rollback, Commit, Keys, Actions, Changes}
 use Rattle.rules.specs.declared.call.Answered.{Answered}
 use Rattle.rules.specs.declared.table.Value.{Value}
-use Rattle.rules.specs.declared.table.UndoLog.the-variants.{NewElem}
 use Rattle.rules.specs.Numbers.{DONE, NO-KEY, KEYS-FULL, LOG-FULL, NOT-INNERMOST, BROKEN-TABLE, BAD-STATE}
-use Rattle.rules.specs.Lent.{Table, table, ownerOf, value, row, putRow, counting}
+use Rattle.rules.specs.Lent.{Table, table, ownerOf, value, row, counting}
 use Rattle.rules.specs.Answer.{refusal, found}
-use Rattle.rules.specs.Write.{memoryOf, logged, full}
+use Rattle.rules.specs.Write.{memoryOf, push, full}
 use Rattle.rules.specs.Plan.{Plan, Walked, walk, walkBoth, findOn, unionedOn, joinOn, postOn, probeOn, probeKeyOn, tryProbe}
 use Rattle.rules.specs.Tokens.{len, snapshot, commit, keysSince, actionsSince, hasChanges, innermost, notInnermost, unfit, since, undoable, undo, rolledBack}
 use Rattle.rules.specs.Refusal.{Outcome, outcome, refuse, carry, sizesOf, bad}
@@ -20,13 +19,12 @@ use Rattle.rules.specs.Refusal.{Outcome, outcome, refuse, carry, sizesOf
 abbrev pub notLive : Table → ℕ → Bool
 notLive t key = leb (t .state .count) key
 
--- The table with one key more, a root of rank 0. "a new key logs its index". All four numbers of the row are written, whatever they
--- held (docs/DECISIONS.md, 14).
+-- The table with one key more, a root of rank 0.
 abbrev pub grown : Table → Value → Table
 grown t v =
     let key = t .state .count in
-    let m = logged (NewElem key) (memoryOf t) in
-    table (putRow (m .rows) key (row key 0 v)) (m .log) (counting (t .state) (key + 1) (m .used) (t .state .«open»))
+    let m = push (memoryOf t) key (row key 0 v) in
+    table (m .rows) (m .log) (counting (t .state) (key + 1) (m .used) (t .state .«open»))
 
 abbrev pub new : Table → Value → Outcome
 new t v =

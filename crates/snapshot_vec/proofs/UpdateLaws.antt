@@ -8,9 +8,8 @@ use Rattle.rules.specs.declared.table.UndoLog.the-variants.{NewElem, SetElem}
 use Rattle.rules.specs.declared.table.Row.{Row}
 use Rattle.rules.specs.declared.table.Value.{Value}
 use Rattle.rules.specs.Lent.{Rows, Log, rowAt, numberOf, putRow, putEntry}
-use Rattle.rules.specs.Write.{Memory, memory, logged, put, redirect, crown}
+use Rattle.rules.specs.Write.{Memory, memory, logged, put, push, redirect, crown}
 use Rattle.rules.proofs.RowLaws.{write-redirect, write-crown}
-use Rattle.snapshot_vec.specs.Pushed.{pushed}
 
 -- nothing is logged with no snapshot open
 pub logged-shut : (e : UndoLog) (rs : Rows) (l : Log) (o u : ℕ) → o ≡ 0 → memory rs l o u ≡ logged e (memory rs l o u)
@@ -48,5 +47,5 @@ module _ (m : Memory) (key : ℕ) (m′ : Memory) (e : m′ ≡ logged (SetElem 
 
 -- a new key's row is made
 pub push-is : (m : Memory) (key : ℕ) (r : Row) (m′ : Memory) (rs : Rows) → m′ ≡ logged (NewElem key) m → rs ≡ putRow (m .rows) key r
-    → memory rs (m′ .log) (m′ .opened) (m′ .used) ≡ pushed key r m
+    → memory rs (m′ .log) (m′ .opened) (m′ .used) ≡ push m key r
 push-is m key r m′ rs e q = rw (e, q)

@@ -1,12 +1,11 @@
 // Rows are written here, and logged first where a snapshot is open. Each function returns the log's used length.
 ghost use mathlib.Core.Path.{_≡_};
-ghost use Rattle.rules.specs.declared.table.UndoLog.the-variants.{NewElem, SetElem};
-ghost use Rattle.rules.specs.Lent.{Rows, rowAt, putRow};
-ghost use Rattle.rules.specs.Write.{memory, logged, put, redirect, crown};
+ghost use Rattle.rules.specs.declared.table.UndoLog.the-variants.{SetElem};
+ghost use Rattle.rules.specs.Lent.{Rows, rowAt};
+ghost use Rattle.rules.specs.Write.{memory, logged, put, push, redirect, crown};
 ghost use Rattle.rules.specs.Tokens.{reversed};
 ghost use Rattle.rules.specs.Contract.{rowsNow, rowsLent, logNow, logLent, memoryLent};
 ghost use Rattle.snapshot_vec.specs.Bounds.{InRows, Loggable, Undoing};
-ghost use Rattle.snapshot_vec.specs.Pushed.{pushed};
 use rules::table::Row;
 use rules::table::UndoLog;
 use rules::table::Value;
@@ -187,7 +186,7 @@ pub fn push(
     requires { ⌜ InRows key (rowsNow parents ranks owners amounts) ⌝ }
     requires { ⌜ Loggable opened used (logNow logkinds logkeys logparents logranks logowners logamounts) ⌝ }
     ensures { let m = memoryLent parents ranks owners amounts logkinds logkeys logparents logranks logowners logamounts in
-        λ r. ⌜ m .exit opened r ≡ pushed key row (m .entry opened used) ⌝ }
+        λ r. ⌜ m .exit opened r ≡ push (m .entry opened used) key row ⌝ }
 {
     let more = log_entry(
         logkinds,
