@@ -10,6 +10,7 @@ use lib.Dec.{eqb}
 use native.Mathlib.Numerals.{add-one}
 use borrow.Author.Tests.{eq-eqb, ne-eqb}
 use Rattle.rules.specs.Walk.{Path, broken, to, from, path}
+use Rattle.roots.specs.Trail.{Leads, Landed, landed, land, compress}
 use Rattle.roots.proofs.PathLaws.{path-out, path-root, path-spent, path-more}
 
 never : {A : Type 0} (root : ℕ) (passed : List ℕ) → broken ≡ to root passed → A
@@ -83,3 +84,50 @@ module _ (ps : List ℕ) (count : ℕ) where
     | yes q ↦ let f = path-root ps count key left (path-in key left root [] e) q in cc
     | no n ↦ let b = path-back key left root [] e n in let f = b .first in cc
   ]
+
+-- ---- the pair: a walk that is there goes on from the parent, and what comes back is the rest of it
+
+module _ {ps : List ℕ} {count left key : ℕ} (w : Leads ps count left key) where
+  pub lead-in : key < count
+  lead-in = path-in ps count key left (w .root) (w .passed) (w .there)
+
+  pub lead-root : getD ps key 0 ≡ key → landed key ps ≡ land (path ps count left key) ps
+  unfolding compress
+  lead-root q = rw (path-root ps count key left lead-in q)
+
+  module _ (n : getD ps key 0 ≡ key → ⊥) where
+    lead-back : Back ps count key left (w .root) (w .passed)
+    lead-back = path-back ps count key left (w .root) (w .passed) (w .there) n
+
+    pub lead-next : (0 < left) × Leads ps count (left - 1) (getD ps key 0)
+    lead-next =
+        let b = lead-back in
+        (b .some-left, record { root = w .root; passed = b .rest; there = b .onward; inside = w .inside })
+
+    -- the root and the parents that came back
+    module _ (root : ℕ) (ps′ : List ℕ) (e : landed root ps′ ≡ land (path ps count (left - 1) (getD ps key 0)) ps) where
+      next-is : landed root ps′ ≡ landed (w .root) (compress (w .root) (lead-back .rest) ps)
+      next-is = rw (lead-back .onward) at e
+
+      next-root : root ≡ w .root
+      next-root = ap (λ (l : Landed). l .root) next-is
+
+      next-parents : ps′ ≡ compress (w .root) (lead-back .rest) ps
+      next-parents = ap (λ (l : Landed). l .parents) next-is
+
+      -- the parent is the root: nothing is rewritten
+      pub lead-below : root ≡ getD ps key 0 → landed root ps′ ≡ land (path ps count left key) ps
+      unfolding compress
+      lead-below q =
+          let b = lead-back in
+          let none : b .rest ≡ [] = path-self ps count (getD ps key 0) (left - 1) (b .rest) (b .onward ∙ ap (λ (x : ℕ). to x (b .rest)) (sym next-root ∙ q)) in
+          rw (w .there, b .first, next-root, next-parents, none)
+
+      -- it is not: this row is rewritten
+      pub lead-above : (root ≡ getD ps key 0 → ⊥) → landed root (set ps′ key root) ≡ land (path ps count left key) ps
+      unfolding compress
+      lead-above q = go (lead-back .rest) refl
+        where
+          go : (l : List ℕ) → lead-back .rest ≡ l → landed root (set ps′ key root) ≡ land (path ps count left key) ps
+          go [] f = absurd (q (next-root ∙ path-nil ps count (getD ps key 0) (left - 1) (w .root) (rw f at (lead-back .onward))))
+          go (k ∷ ks) f = rw (w .there, lead-back .first, next-root, next-parents, f)
