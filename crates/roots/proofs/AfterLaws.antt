@@ -58,7 +58,7 @@ pub record Cons (ps : List ℕ) (count key left root k : ℕ) (passed : List ℕ
   pub no-root : getD ps key 0 ≡ key → ⊥
   pub onward : path ps count (left - 1) (getD ps key 0) ≡ to root passed
 
-path-cons : (ps : List ℕ) (count key left root k : ℕ) (passed : List ℕ) → path ps count left key ≡ to root (k ∷ passed)
+pub path-cons : (ps : List ℕ) (count key left root k : ℕ) (passed : List ℕ) → path ps count left key ≡ to root (k ∷ passed)
     → Cons ps count key left root k passed
 path-cons ps count key left root k passed e =
     let n : getD ps key 0 ≡ key → ⊥ =
