@@ -23,6 +23,10 @@ use Rattle.rollback.proofs.UndoLaws.{undoable-below}
 
 -- ---- what is refused before anything is undone
 
+neither : (a b : Bool) → (a || b) ≡ false → (a ≡ false) × (b ≡ false)
+neither true b q = (q, cc)
+neither false b q = (refl, q)
+
 module _ (l : Log) (s : State) (m : Mark) where
   pub broken-unfit : unfit s m ≡ true → true ≡ broken l s m
   unfolding broken
@@ -32,22 +36,19 @@ module _ (l : Log) (s : State) (m : Mark) where
   unfolding broken
   broken-fit u b q = rw (u, q)
 
-  neither : (a b : Bool) → (a || b) ≡ false → (a ≡ false) × (b ≡ false)
-  neither true b q = (q, cc)
-  neither false b q = (refl, q)
-
-  pub fit : unfit s m ≡ false → (m .«log_len» ≤ s .used)
+  pub fit : unfit s m ≡ false → m .«log_len» ≤ s .used
   fit u = ltb-false (s .used) (m .«log_len») (neither (ltb (s .used) (m .«log_len»)) (ltb (s .count) (m .keys)) u .0)
 
   module _ (q : broken l s m ≡ false) where
-    pub whole-fit : m .«log_len» ≤ s .used
+    halves : (unfit s m ≡ false) × (not (undoable (m .keys) (s .count) (since l s m)) ≡ false)
     unfolding broken
-    whole-fit = fit (neither (unfit s m) (not (undoable (m .keys) (s .count) (since l s m))) q .0)
+    halves = neither (unfit s m) (not (undoable (m .keys) (s .count) (since l s m))) q
+
+    pub whole-fit : m .«log_len» ≤ s .used
+    whole-fit = fit (halves .0)
 
     pub whole-undoable : undoable (m .keys) (s .count) (since l s m) ≡ true
-    unfolding broken
-    whole-undoable =
-        not-false (undoable (m .keys) (s .count) (since l s m)) (neither (unfit s m) (not (undoable (m .keys) (s .count) (since l s m))) q .1)
+    whole-undoable = not-false (undoable (m .keys) (s .count) (since l s m)) (halves .1)
 
 -- ---- a table that is not bad
 
@@ -62,7 +63,9 @@ module _ (t : Table) (g : Good (sizesOf t) (t .state)) where
     pub good-reversible : Reversible (since (t .log) (t .state) m) (t .rows)
     good-reversible =
         record {
-          below = undoable-below (length (t .rows .parents)) (m .keys) (t .state .count) (since (t .log) (t .state) m) (g .count) (whole-undoable (t .log) (t .state) m q);
+          below =
+              undoable-below (length (t .rows .parents)) (m .keys) (t .state .count) (since (t .log) (t .state) m) (g .count)
+              (whole-undoable (t .log) (t .state) m q);
           rowed = omega arith;
         }
 

@@ -11,6 +11,7 @@ use Rattle.rollback.proofs.rollback.rollback_to.Tie as tie
 abbrev tableAt : tie.Start → Table
 tableAt e = let a = e .args in table (rowsNow (a .parents) (a .ranks) (a .owners) (a .amounts)) (logNow (a .logkinds) (a .logkeys) (a .logparents) (a .logranks) (a .logowners) (a .logamounts)) (a .state)
 
+-- the table is not bad
 sound : (c : tie.Else1) → Sound (tableAt (c .before .before .before .before .before .before .before .before .before .before .before .before))
 sound c = sym (c .before .bad-state .ensures) ∙ c .if1 .left
 
