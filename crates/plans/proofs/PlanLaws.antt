@@ -18,6 +18,7 @@ use Rattle.rules.specs.Answer.{answer, refusal, stepped, found, probed, said}
 use Rattle.rules.specs.Merge.{merge}
 use Rattle.rules.specs.Write.{Write, crown, writes}
 use Rattle.rules.specs.Plan.{Plan, plan, Walked, walk, walkBoth, rewrites, settle, unite, findOn, unionedOn, joinOn, postOn, probeOn, probeKeyOn, tryProbe}
+use Rattle.snapshot_vec.specs.Bounds.{InRows}
 use Rattle.roots.specs.declared.path.Trail.{Trail}
 use Rattle.roots.specs.Trail.{rootOf, passedOf, compressed}
 use Rattle.roots.proofs.RewriteLaws.{rows-after}
@@ -149,3 +150,63 @@ module _ (rs : Rows) (count a b : ℕ) (w : Walks) (o : BothWalks rs count a b w
       ≡ joinOn (firstOf rs w) (secondOf rs w) =
       rw (ne-eqb (rootOf (w .first)) (rootOf (w .second)) n, rows-same, both-long .0, both-long .1) in
       record { is = J .is ∙ k ∙ m; doable = J .doable (o .walkable) }
+
+-- ---- two different roots
+
+module _ (rs : Rows) (count : ℕ) (w : Walks) (a b s : ℕ) (x : Answer) (p : Todo) where
+  walks-doable : (f : Finish) → p ≡ todo x w f → Inside count f → Walkable rs count w → Doable rs count p
+  walks-doable f e i k = rw e (record { first = k .first; second = k .second; finish = i })
+
+  module _ (h : x ≡ refusal BROKEN-TABLE) (P : Planned rs count p (plan x [])) where
+    pub high-a : MAX-RANK < rowAt rs a .rank → Joined rs count w a b s p
+    high-a t = record { is = P .is ∙ rw (h, lt-ltb MAX-RANK (rowAt rs a .rank) t); doable = λ k. P .doable }
+
+    pub high-b : rowAt rs a .rank ≤ MAX-RANK → MAX-RANK < rowAt rs b .rank → Joined rs count w a b s p
+    high-b l t =
+        record {
+          is = P .is ∙ rw (h, le-ltb MAX-RANK (rowAt rs a .rank) l, lt-ltb MAX-RANK (rowAt rs b .rank) t);
+          doable = λ k. P .doable;
+        }
+
+  module _ (la : rowAt rs a .rank ≤ MAX-RANK) (lb : rowAt rs b .rank ≤ MAX-RANK) where
+    pub join-clash : merge (valueOf (rowAt rs a)) (valueOf (rowAt rs b)) ≡ Clash → x ≡ stepped OWNER-CLASH s → p ≡ todo x w Nothing
+        → Joined rs count w a b s p
+    join-clash m h e =
+        record {
+          is = rw (e, h, le-ltb MAX-RANK (rowAt rs a .rank) la, le-ltb MAX-RANK (rowAt rs b .rank) lb, m, append-nil);
+          doable = walks-doable Nothing e tt;
+        }
+
+    pub join-over : merge (valueOf (rowAt rs a)) (valueOf (rowAt rs b)) ≡ TooMuch → x ≡ stepped TOO-MUCH s → p ≡ todo x w Nothing
+        → Joined rs count w a b s p
+    join-over m h e =
+        record {
+          is = rw (e, h, le-ltb MAX-RANK (rowAt rs a .rank) la, le-ltb MAX-RANK (rowAt rs b .rank) lb, m, append-nil);
+          doable = walks-doable Nothing e tt;
+        }
+
+    pub join-both : (v : Value) → merge (valueOf (rowAt rs a)) (valueOf (rowAt rs b)) ≡ Both v → x ≡ stepped DONE s → (f : Finish)
+        → finishOf f ≡ united a (rowAt rs a .rank) b (rowAt rs b .rank) v → Inside count f → p ≡ todo x w f → Joined rs count w a b s p
+    join-both v m h f u i e =
+        record {
+          is = rw (e, h, u, le-ltb MAX-RANK (rowAt rs a .rank) la, le-ltb MAX-RANK (rowAt rs b .rank) lb, m);
+          doable = walks-doable f e i;
+        }
+
+-- ---- a key without a walk
+
+module _ (rs : Rows) (count key : ℕ) (x : Answer) (p : Todo) (P : Planned rs count p (plan x [])) where
+  pub try-no-key : count ≤ key → x ≡ refusal NO-KEY → Planned rs count p (ifLive count key (tryProbe rs key))
+  try-no-key h q = record { is = P .is ∙ rw (q, le-leb count key h); doable = P .doable }
+
+  module _ (h : key < count) where
+    pub try-nothing : (rowAt rs key .parent ≡ key → ⊥) → x ≡ said false 0 → Planned rs count p (ifLive count key (tryProbe rs key))
+    try-nothing n q = record { is = P .is ∙ rw (q, lt-leb count key h, ne-eqb (rowAt rs key .parent) key n); doable = P .doable }
+
+    pub try-value : rowAt rs key .parent ≡ key → (v : Value) → v ≡ valueOf (rowAt rs key) → x ≡ answer DONE 0 0 v 0 true 0 0
+        → Planned rs count p (ifLive count key (tryProbe rs key))
+    try-value e v u q = record { is = P .is ∙ rw (q, u, lt-leb count key h, eq-eqb (rowAt rs key .parent) key e); doable = P .doable }
+
+-- a row below the count is within all four parts
+pub even-row : (rs : Rows) (count i : ℕ) → Even count rs → i < count → InRows i rs
+even-row rs count i e h = record { parents = omega (arith, e .parents); ranks = omega (arith, e .ranks); owners = omega (arith, e .owners); amounts = omega (arith, e .amounts) }
