@@ -36,7 +36,7 @@ module _ (ps : List ℕ) (count : ℕ) where
   ]
 
   -- from a row that a path passes, the rest of it is a path
-  suffix : (left key root : ℕ) (passed : List ℕ) → path ps count left key ≡ to root passed → (j : ℕ) → j < length passed
+  pub suffix : (left key root : ℕ) (passed : List ℕ) → path ps count left key ≡ to root passed → (j : ℕ) → j < length passed
       → (left′ : ℕ) × (path ps count left′ (getD passed j 0) ≡ to root (drop j passed))
   suffix left key root [] e j h = absurd (omega arith)
   suffix left key root (k ∷ passed) e zero h =
@@ -54,3 +54,10 @@ module _ (ps : List ℕ) (count : ℕ) where
       let same : getD passed j 0 ≡ key = q ∙ c .first in
       let long = as-long left (s .0) key root root (k ∷ passed) (drop j passed) e (rw same at (s .1)) in
       omega (arith, length-drop j passed)
+
+  -- every row that a path passes is below the count
+  pub passed-in : (left key root : ℕ) (passed : List ℕ) → path ps count left key ≡ to root passed → (j : ℕ) → j < length passed
+      → getD passed j 0 < count
+  passed-in left key root passed e j h =
+      let s = suffix left key root passed e j h in
+      path-in ps count (getD passed j 0) (s .0) root (drop j passed) (s .1)
