@@ -1,0 +1,5 @@
+-- Why a table stands for its history.
+pub mod Tools
+pub mod SumLaws
+pub mod MergeLaws
+pub mod RowLaws

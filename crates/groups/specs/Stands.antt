@@ -1,0 +1,86 @@
+-- When a table stands for a history: its rows show the groups after the deeds that survive, and its log leads back from snapshot to
+-- snapshot to rows that show the groups as each was taken.
+use mathlib.Core.Path.{_≡_}
+use mathlib.Core.Logic.{_≢_}
+use mathlib.Core.Bool.{true, false}
+use mathlib.Core.List.{List, [], _∷_}
+use Prim.Native.Nat.{ℕ, _-_, _≤_, _<_}
+use lib.ListN.{length}
+use Rattle.rules.specs.declared.table.UndoLog.{UndoLog}
+use Rattle.rules.specs.declared.table.Mark.{Mark}
+use Rattle.rules.specs.declared.table.State.{State}
+use Rattle.rules.specs.Numbers.{MAX-ROWS, MAX-ENTRIES, MAX-OPEN}
+use Rattle.rules.specs.Lent.{Rows, Log, Table, valueOf, rowAt, markAt}
+use Rattle.rules.specs.Tokens.{newestFirst, undoable, undo}
+use Rattle.groups.specs.Groups.{Groups, Deed, replay, Accepted}
+use Rattle.groups.specs.Track.{History, Saved, Track, track, lastToken, Orderly}
+
+-- ---- rows that show groups
+
+abbrev pub up : Rows → ℕ → ℕ
+up rs i = rowAt rs i .parent
+
+abbrev pub high : Rows → ℕ → ℕ
+high rs i = rowAt rs i .rank
+
+-- Following parents from a key leads to this root.
+pub data Leads (p : ℕ → ℕ) : ℕ → ℕ → Type 0 where
+  here : {i r : ℕ} → p i ≡ i → i ≡ r → Leads p i r
+  along : {i r : ℕ} → Leads p (p i) r → Leads p i r
+
+-- A redirect leads below the count, to a row of greater rank; each key leads to its root; a root's row has its rank and value.
+pub record Shows (rs : Rows) (g : Groups) : Type 0 where
+  pub inside : (i : ℕ) → i < g .count → up rs i < g .count
+  pub rises : (i : ℕ) → i < g .count → up rs i ≢ i → high rs i < high rs (up rs i)
+  pub leads : (i : ℕ) → i < g .count → Leads (up rs) i (g .root i)
+  pub ranks : (r : ℕ) → r < g .count → up rs r ≡ r → high rs r ≡ g .rank r
+  pub values : (r : ℕ) → r < g .count → up rs r ≡ r → valueOf (rowAt rs r) ≡ g .value r
+
+-- The same, of the groups that accepted deeds make, over `count` rows.
+pub record Made (rs : Rows) (count : ℕ) (ds : List Deed) : Type 0 where
+  pub accepted : Accepted ds
+  pub counted : replay ds .count ≡ count
+  pub shows : Shows rs (replay ds)
+
+-- ---- a log that leads back
+
+-- Undoing the entries since the innermost mark gives rows that show what had survived as the snapshot was taken; and so on outwards.
+-- With no snapshot open nothing is logged.
+abbrev pub Leads-back : Log → (ℕ → Mark) → ℕ → ℕ → Rows → List Saved → Type 0
+Leads-back l marks used count rs [] = used ≡ 0
+Leads-back l marks used count rs (x ∷ xs) =
+    let m = marks (length xs) in
+    let es = newestFirst l (m .«log_len») (used - m .«log_len») in
+    (m .serial ≡ x .token) × (m .«log_len» ≤ used) × (undoable (m .keys) count es ≡ true)
+    × Made (undo rs es) (m .keys) (x .deeds) × Leads-back l marks (m .«log_len») (m .keys) (undo rs es) xs
+
+-- ---- what is lent
+
+abbrev pub WideRows : Rows → ℕ → Type 0
+WideRows rs n = (length (rs .parents) ≡ n) × (length (rs .ranks) ≡ n) × (length (rs .owners) ≡ n) × (length (rs .amounts) ≡ n)
+
+abbrev pub WideLog : Log → ℕ → Type 0
+WideLog l n = (length (l .kinds) ≡ n) × (length (l .keys) ≡ n) × WideRows (l .old) n
+
+-- "lent parts of unequal length" and "rows or log above the limits" are BAD_STATE: there is room for so many rows and entries.
+pub record Lends (rs : Rows) (l : Log) (rows entries : ℕ) : Type 0 where
+  pub row-parts : WideRows rs rows
+  pub log-parts : WideLog l entries
+  pub row-limit : rows ≤ MAX-ROWS
+  pub log-limit : entries ≤ MAX-ENTRIES
+
+-- ---- the two together
+
+pub record Stands (t : Table) (h : History) : Type 0 where
+  pub room : ℕ
+  pub log-room : ℕ
+  pub lends : Lends (t .rows) (t .log) room log-room
+  pub fits : t .state .count ≤ room
+  pub log-fits : t .state .used ≤ log-room
+  pub marks-kept : length (t .state .marks) ≡ MAX-OPEN
+  pub open-fits : length (track h .saved) ≤ MAX-OPEN
+  pub opened : t .state .«open» ≡ length (track h .saved)
+  pub made : Made (t .rows) (t .state .count) (track h .now)
+  pub back : Leads-back (t .log) (markAt (t .state)) (t .state .used) (t .state .count) (t .rows) (track h .saved)
+  pub orderly : Orderly h
+  pub serials : lastToken h ≤ t .state .last
