@@ -3,3 +3,5 @@ pub mod Tools
 pub mod SumLaws
 pub mod MergeLaws
 pub mod RowLaws
+pub mod Whole
+pub mod Forest
