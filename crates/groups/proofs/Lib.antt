@@ -5,3 +5,4 @@ pub mod MergeLaws
 pub mod RowLaws
 pub mod Whole
 pub mod Forest
+pub mod Walks

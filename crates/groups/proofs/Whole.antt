@@ -131,3 +131,11 @@ pub whole : (ds : List Deed) → Accepted ds → Whole (replay ds)
 unfolding replay
 whole [] a = no-groups
 whole (d ∷ ds) a = step-whole (whole ds (a .1)) d (a .0)
+
+-- ---- ranks stay low
+
+small : (k : ℕ) → 2 ^ k ≤ MAX-ROWS → k ≤ MAX-RANK
+small k q = le-of-suc-le-suc (lt-of-not-le (λ (g : 17 ≤ k). not-le-of-lt (lit< {m = 65536} {n = 131072} tt) (le-trans (pow-mono g) q)))
+
+pub rank-low : {g : Groups} → Whole g → g .count ≤ MAX-ROWS → (r : ℕ) → r < g .count → g .root r ≡ r → g .rank r ≤ MAX-RANK
+rank-low {g} W limit r h e = small (g .rank r) (le-trans (W .big r h e) (le-trans (size-le (g .root) r (g .count)) limit))
