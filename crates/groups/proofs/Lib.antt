@@ -6,3 +6,4 @@ pub mod RowLaws
 pub mod Whole
 pub mod Forest
 pub mod Walks
+pub mod Undoing

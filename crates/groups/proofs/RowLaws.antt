@@ -10,7 +10,7 @@ use borrow.Author.Tests.{eq-eqb, ne-eqb}
 use Rattle.rules.specs.declared.table.Owner.{Owner}
 use Rattle.rules.specs.declared.table.Owner.the-variants.{Nobody, Tenant}
 use Rattle.rules.specs.declared.table.Row.{Row}
-use Rattle.rules.specs.Lent.{Rows, ownerOf, numberOf, rowAt, putRow}
+use Rattle.rules.specs.Lent.{Rows, ownerOf, numberOf, value, row, rowAt, putRow}
 use Rattle.groups.specs.Stands.{WideRows}
 use Rattle.groups.proofs.Tools.{bySame}
 
@@ -33,13 +33,16 @@ real-owner n e = bySame n 0
 
 -- ---- one row
 
-pub row-hit : (rs : Rows) (n i : ℕ) (r : Row) → WideRows rs n → i < n → Real (r .owner) → rowAt (putRow rs i r) i ≡ r
-row-hit rs n i r w h real =
+-- What is read back, whoever the owner.
+row-back : (rs : Rows) (n i : ℕ) (r : Row) → WideRows rs n → i < n → rowAt (putRow rs i r) i ≡ row (r .parent) (r .rank) (value (ownerOf (numberOf (r .owner))) (r .amount))
+row-back rs n i r w h =
     rw (
       getD-set-same (rs .parents) i (r .parent) 0 (rw (w .0) h), getD-set-same (rs .ranks) i (r .rank) 0 (rw (w .1) h),
-      getD-set-same (rs .owners) i (numberOf (r .owner)) 0 (rw (w .2) h), getD-set-same (rs .amounts) i (r .amount) 0 (rw (w .3) h),
-      owner-of-number (r .owner) real
+      getD-set-same (rs .owners) i (numberOf (r .owner)) 0 (rw (w .2) h), getD-set-same (rs .amounts) i (r .amount) 0 (rw (w .3) h)
     )
+
+pub row-hit : (rs : Rows) (n i : ℕ) (r : Row) → WideRows rs n → i < n → Real (r .owner) → rowAt (putRow rs i r) i ≡ r
+row-hit rs n i r w h real = row-back rs n i r w h ∙ ap (λ (o : Owner). row (r .parent) (r .rank) (value o (r .amount))) (owner-of-number (r .owner) real)
 
 pub row-miss : (rs : Rows) (i j : ℕ) (r : Row) → j ≢ i → rowAt (putRow rs i r) j ≡ rowAt rs j
 row-miss rs i j r d =
@@ -69,10 +72,10 @@ put-back rs i r =
 abbrev pub Alike : ℕ → Rows → Rows → Type 0
 Alike n rs rs′ = (i : ℕ) → i < n → rowAt rs i ≡ rowAt rs′ i
 
-pub alike-put : (n room : ℕ) (rs rs′ : Rows) (i : ℕ) (r : Row) → WideRows rs room → WideRows rs′ room → i < room → Real (r .owner) → Alike n rs rs′ → Alike n (putRow rs i r) (putRow rs′ i r)
-alike-put n room rs rs′ i r w w′ h real a j q =
+pub alike-put : (n room : ℕ) (rs rs′ : Rows) (i : ℕ) (r : Row) → WideRows rs room → WideRows rs′ room → i < room → Alike n rs rs′ → Alike n (putRow rs i r) (putRow rs′ i r)
+alike-put n room rs rs′ i r w w′ h a j q =
     bySame j i
-      (λ e. rw e (row-hit rs room i r w h real ∙ sym (row-hit rs′ room i r w′ h real)))
+      (λ e. rw e (row-back rs room i r w h ∙ sym (row-back rs′ room i r w′ h)))
       (λ d. row-miss rs i j r d ∙ a j q ∙ sym (row-miss rs′ i j r d))
 
 -- A row written at or past the count.
