@@ -7,3 +7,4 @@ pub mod Whole
 pub mod Forest
 pub mod Walks
 pub mod Undoing
+pub mod Logging
