@@ -8,3 +8,4 @@ pub mod Forest
 pub mod Walks
 pub mod Undoing
 pub mod Logging
+pub mod Plans

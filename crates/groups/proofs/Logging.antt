@@ -15,7 +15,7 @@ use Rattle.rules.specs.declared.table.Mark.{Mark}
 use Rattle.rules.specs.declared.table.Row.{Row}
 use Rattle.rules.specs.Lent.{Rows, Log, rowAt, putRow, entryAt, putEntry}
 use Rattle.rules.specs.Write.{Write, place, edit, write, writes, Memory, logged, put, puts}
-use Rattle.rules.specs.Tokens.{undoable, undo}
+use Rattle.rules.specs.Tokens.{undoable, reversed}
 use Rattle.groups.specs.Track.{Saved}
 use Rattle.groups.specs.Stands.{Leads-back, WideRows, WideLog}
 use Rattle.groups.proofs.RowLaws.{real-owner, put-back}
@@ -31,7 +31,7 @@ pub record Logged (marks : ℕ → Mark) (entries : ℕ) (l : Log) (used count :
 module _ (marks : ℕ → Mark) (entries : ℕ) where
   -- One entry is logged, if a snapshot is open.
   pub log-one : (m : Memory) (count count′ : ℕ) (rs rs′ : Rows) (xs : List Saved) (e : UndoLog) → m .opened ≡ length xs → (m .opened ≢ 0 → m .used + 1 ≤ entries) → Known e
-      → ((es : List UndoLog) → undo rs′ (e ∷ es) ≡ undo rs es) → ((keys : ℕ) (es : List UndoLog) → undoable keys count es ≡ true → undoable keys count′ (e ∷ es) ≡ true)
+      → reversed rs′ e ≡ rs → ((keys : ℕ) (es : List UndoLog) → undoable keys count es ≡ true → undoable keys count′ (e ∷ es) ≡ true)
       → Logged marks entries (m .log) (m .used) count rs xs → Logged marks entries (logged e m .log) (logged e m .used) count′ rs′ xs
   log-one m count count′ rs rs′ [] e o free k un able L =
       rw (eq-eqb (m .opened) 0 o) (record { wide = L .wide; fits = L .fits; back = L .back })
@@ -48,12 +48,12 @@ module _ (marks : ℕ → Mark) (entries : ℕ) where
   -- A row is written, its old row logged.
   log-put : (m : Memory) (count : ℕ) (xs : List Saved) (w : Write) → m .opened ≡ length xs → (m .opened ≢ 0 → m .used + 1 ≤ entries) → place w < count
       → Logged marks entries (m .log) (m .used) count (m .rows) xs → Logged marks entries (put m w .log) (put m w .used) count (put m w .rows) xs
-  unfolding undo undoable
+  unfolding undoable
   log-put m count xs w o free h L =
       let rs : Rows = m .rows in
       let i : ℕ = place w in
       log-one m count count rs (write rs w) xs (SetElem i (rowAt rs i)) o free (real-owner (getD (rs .owners) i 0))
-        (λ es. ap (λ (z : Rows). undo z es) (put-back rs i (edit w (rowAt rs i))))
+        (put-back rs i (edit w (rowAt rs i)))
         (λ keys es p. rw (lt-ltb i count h) p) L
 
   pub log-puts : (ws : List Write) (m : Memory) (count : ℕ) (xs : List Saved) → m .opened ≡ length xs → (m .opened ≢ 0 → m .used + length ws ≤ entries) → Inside count ws

@@ -17,7 +17,7 @@ use Rattle.rules.specs.declared.table.Row.{Row}
 use Rattle.rules.specs.Numbers.{KIND-UNKNOWN}
 use Rattle.rules.specs.Lent.{Rows, Log, kindOf, keyOf, oldOf, rowAt, putRow, entryAt, putEntry}
 use Rattle.rules.specs.Write.{Write, place, edit, write, writes, Memory, put, puts}
-use Rattle.rules.specs.Tokens.{newestFirst, undoable, undo}
+use Rattle.rules.specs.Tokens.{newestFirst, undoable, reversed, undo}
 use Rattle.groups.specs.Groups.{Deed, replay}
 use Rattle.groups.specs.Track.{Saved}
 use Rattle.groups.specs.Stands.{Shows, Made, Leads-back, WideRows, WideLog}
@@ -59,9 +59,7 @@ wide-entry l entries u e w =
 pub undo-append : (rs : Rows) (es fs : List UndoLog) → undo rs (es ++ fs) ≡ undo (undo rs es) fs
 unfolding undo
 undo-append rs [] fs = refl
-undo-append rs (NewElem key ∷ es) fs = undo-append rs es fs
-undo-append rs (SetElem key old ∷ es) fs = undo-append (putRow rs key old) es fs
-undo-append rs (Unknown ∷ es) fs = undo-append rs es fs
+undo-append rs (e ∷ es) fs = undo-append (reversed rs e) es fs
 
 pub undoable-append : (keys mid count : ℕ) (es fs : List UndoLog) → undoable mid count es ≡ true → undoable keys mid fs ≡ true → undoable keys count (es ++ fs) ≡ true
 unfolding undoable
@@ -80,12 +78,15 @@ undoable-le keys count (NewElem key ∷ es) p =
 undoable-le keys count (SetElem key old ∷ es) p = undoable-le keys count es (and-eq-true-iff (ltb key count) (undoable keys count es) .0 p .1)
 undoable-le keys count (Unknown ∷ es) p = absurd (true≢false (sym p))
 
+wide-reversed : (rs : Rows) (room : ℕ) (e : UndoLog) → WideRows rs room → WideRows (reversed rs e) room
+wide-reversed rs room (NewElem key) w = w
+wide-reversed rs room (SetElem key old) w = wide-put rs room key old w
+wide-reversed rs room Unknown w = w
+
 pub wide-undo : (rs : Rows) (room : ℕ) (es : List UndoLog) → WideRows rs room → WideRows (undo rs es) room
 unfolding undo
 wide-undo rs room [] w = w
-wide-undo rs room (NewElem key ∷ es) w = wide-undo rs room es w
-wide-undo rs room (SetElem key old ∷ es) w = wide-undo (putRow rs key old) room es (wide-put rs room key old w)
-wide-undo rs room (Unknown ∷ es) w = wide-undo rs room es w
+wide-undo rs room (e ∷ es) w = wide-undo (reversed rs e) room es (wide-reversed rs room e w)
 
 -- Rows that are the same below the count are so after undoing.
 pub undo-alike : (room keys count : ℕ) (es : List UndoLog) (rs rs′ : Rows) → count ≤ room → WideRows rs room → WideRows rs′ room → undoable keys count es ≡ true
@@ -168,14 +169,16 @@ back-alike room l marks used count rs rs′ (x ∷ xs) f w w′ a b =
 -- With one entry more, whose undoing gives back what it was before.
 pub back-entry : (l l′ : Log) (marks : ℕ → Mark) (used used′ count count′ : ℕ) (rs rs′ : Rows) (x : Saved) (xs : List Saved) (e : UndoLog) → used′ ≡ used + 1
     → ((j : ℕ) → j < used → entryAt l′ j ≡ entryAt l j) → entryAt l′ used ≡ e
-    → ((es : List UndoLog) → undo rs′ (e ∷ es) ≡ undo rs es) → ((keys : ℕ) (es : List UndoLog) → undoable keys count es ≡ true → undoable keys count′ (e ∷ es) ≡ true)
+    → reversed rs′ e ≡ rs → ((keys : ℕ) (es : List UndoLog) → undoable keys count es ≡ true → undoable keys count′ (e ∷ es) ≡ true)
     → Leads-back l marks used count rs (x ∷ xs) → Leads-back l′ marks used′ count′ rs′ (x ∷ xs)
+unfolding undo
 back-entry l l′ marks used used′ count count′ rs rs′ x xs e u same hit un able′ b =
     let (token, len, able, made, rest) = b in
     let m : Mark = marks (length xs) in
     let es : List UndoLog = newestFirst l (m .«log_len») (used - m .«log_len») in
     let q : newestFirst l′ (m .«log_len») (used′ - m .«log_len») ≡ e ∷ es = newest-more l l′ (m .«log_len») used used′ e u len same hit in
-    rw (q, un es) (token, omega arith, able′ (m .keys) es able, made, back-log l l′ marks (m .«log_len») (m .keys) (undo rs es) xs (λ j h. same j (omega arith)) rest)
+    let r : undo rs′ (e ∷ es) ≡ undo rs es = ap (λ (z : Rows). undo z es) un in
+    rw (q, r) (token, omega arith, able′ (m .keys) es able, made, back-log l l′ marks (m .«log_len») (m .keys) (undo rs es) xs (λ j h. same j (omega arith)) rest)
 
 -- The innermost mark but one leads back over the entries of both.
 pub back-commit : (l : Log) (marks : ℕ → Mark) (used count : ℕ) (rs : Rows) (x y : Saved) (zs : List Saved)

@@ -61,6 +61,19 @@ pub record Hangs (g : Groups) (a b low high k : ℕ) (v : Value) : Type 0 where
   pub merged : merge (g .value (g .root a)) (g .value (g .root b)) ≡ Both v
   pub which : ((low ≡ g .root a) × (high ≡ g .root b)) ⊎ ((low ≡ g .root b) × (high ≡ g .root a))
 
+-- Either way round.
+module _ (g : Groups) (W : Whole g) (a b : ℕ) (ha : a < g .count) (hb : b < g .count) (d : g .root a ≢ g .root b) (v : Value)
+    (m : merge (g .value (g .root a)) (g .value (g .root b)) ≡ Both v) (k : ℕ) where
+  pub hangs-a : Ranked (g .rank (g .root a)) (g .rank (g .root b)) k → Hangs g a b (g .root a) (g .root b) k v
+  hangs-a q = record {
+    low-live = W .within a ha; high-live = W .within b hb; low-root = W .settled a; high-root = W .settled b; apart = d; ranked = q; merged = m; which = inl (refl, refl)
+  }
+
+  pub hangs-b : Ranked (g .rank (g .root b)) (g .rank (g .root a)) k → Hangs g a b (g .root b) (g .root a) k v
+  hangs-b q = record {
+    low-live = W .within b hb; high-live = W .within a ha; low-root = W .settled b; high-root = W .settled a; apart = λ z. d (sym z); ranked = q; merged = m; which = inr (refl, refl)
+  }
+
 -- The roots were the same and nothing moves, or one group is hung under the other.
 pub join-cases : (P : Groups → Type 0) (g : Groups) → Whole g → (a b : ℕ) → Accepts g (joined a b)
     → (g .root a ≡ g .root b → P g) → ((low high k : ℕ) (v : Value) → Hangs g a b low high k v → P (hung g low high k v)) → P (step g (joined a b))
@@ -73,12 +86,8 @@ join-cases P g W a b acc f h =
       (λ e. rw (eq-eqb r s e) (f e))
       (λ d. either t (λ e. absurd (d e)) (λ m. rw (ne-eqb r s d, m .1)
         (by-rank (λ (_ : ℕ) (g′ : Groups). P g′) (g .rank r) (g .rank s) (λ k. k) (λ k. k) (λ k. hung g s r k (m .0)) (λ k. hung g r s k (m .0))
-          (λ k q. h s r k (m .0) (record {
-            low-live = W .within b hb; high-live = W .within a ha; low-root = W .settled b; high-root = W .settled a;
-            apart = λ z. d (sym z); ranked = q; merged = m .1; which = inr (refl, refl) }))
-          (λ k q. h r s k (m .0) (record {
-            low-live = W .within a ha; high-live = W .within b hb; low-root = W .settled a; high-root = W .settled b;
-            apart = d; ranked = q; merged = m .1; which = inl (refl, refl) })))))
+          (λ k q. h s r k (m .0) (hangs-b g W a b ha hb d (m .0) (m .1) k q))
+          (λ k q. h r s k (m .0) (hangs-a g W a b ha hb d (m .0) (m .1) k q)))))
 
 -- ---- each step
 
