@@ -30,7 +30,7 @@ use Rattle.groups.specs.Stands.{up, high, Shows, WideRows}
 use Rattle.groups.proofs.Tools.{cases, bySame, either}
 use Rattle.groups.proofs.RowLaws.{Real, real-owner, row-hit, row-miss, wide-put}
 use Rattle.groups.proofs.MergeLaws.{merge-sum}
-use Rattle.groups.proofs.Whole.{Whole, Ranked, by-rank, Hangs, hangs-a, hangs-b, step-whole, rank-low}
+use Rattle.groups.proofs.Whole.{Whole, Ranked, by-rank, Hangs, hangs-a, hangs-b, hung-whole, step-whole, rank-low}
 use Rattle.groups.proofs.Forest.{is-root, hung-shows, posted-shows}
 use Rattle.groups.proofs.Walks.{Holds, Reaches, reaches, count-limit, Inside, inside-append, writes-append, wrote, rewritten, rewrites-inside}
 
@@ -236,3 +236,72 @@ module _ {rs : Rows} {room : ℕ} (now : List Deed) (A : Accepted now) (H : Hold
     unioned-planned =
         rw (both-end unionedOn)
           (rests (Unioned a b) (plan (said (eqb (first .root) (second .root)) (first .steps + second .steps)) walked) refl walked-hold both-inside (calm 0 refl refl))
+
+    -- ---- a join
+
+    join-same : replay now .root a ≡ replay now .root b → Planned rs room now (Join a b) (plan (stepped DONE (first .steps + second .steps)) walked)
+    unfolding step
+    join-same e =
+        let g : Groups = replay now in
+        let q : eqb (g .root a) (g .root b) ≡ true = eq-eqb (g .root a) (g .root b) e in
+        moving (Join a b) (plan (stepped DONE (first .steps + second .steps)) walked) (joined a b) refl (ha, hb, inl e) (rw q refl) (rw q walked-hold) both-inside (calm 0 refl refl)
+
+    module _ (d : replay now .root a ≢ replay now .root b) where
+      not-high : tooHigh (second .rows) (replay now .root a) (replay now .root b) ≡ false
+      not-high =
+          let g : Groups = replay now in
+          let low : (i : ℕ) → i < g .count → high (second .rows) (g .root i) ≤ MAX-RANK = λ i h.
+            subst⁻¹ (λ (z : ℕ). z ≤ MAX-RANK) (root-rank both-hold (g .root i) (H .whole .within i h) (H .whole .settled i))
+              (rank-low (H .whole) (count-limit H) (g .root i) (H .whole .within i h) (H .whole .settled i)) in
+          rw (le-ltb MAX-RANK (high (second .rows) (g .root a)) (low a ha), le-ltb MAX-RANK (high (second .rows) (g .root b)) (low b hb))
+
+      -- The rows written by rank are those of the groups united by rank.
+      united-holds : (v : Value) → merge (replay now .value (replay now .root a)) (replay now .value (replay now .root b)) ≡ Both v → Real (v .owner)
+          → Holds (writes (second .rows) (unite (second .rows) (replay now .root a) (replay now .root b) v)) (united (replay now) (replay now .root a) (replay now .root b) v) room
+            × Inside (replay now .count) (unite (second .rows) (replay now .root a) (replay now .root b) v)
+      united-holds v m real =
+          let g : Groups = replay now in
+          let r : ℕ = g .root a in
+          let s : ℕ = g .root b in
+          let hr : r < g .count = H .whole .within a ha in
+          let hs : s < g .count = H .whole .within b hb in
+          let onto : ℕ → ℕ → ℕ → List Write = λ low top k. redirect low top ∷ crown top k v ∷ [] in
+          let by : ℕ → ℕ → List Write = λ x y. cond (ltb y x) (onto s r x) (cond (ltb x y) (onto r s y) (onto r s (y + 1))) in
+          let is : unite (second .rows) r s v ≡ by (g .rank r) (g .rank s) =
+            ap₂ by (root-rank both-hold r hr (H .whole .settled a)) (root-rank both-hold s hs (H .whole .settled b)) in
+          subst⁻¹ (λ (ws : List Write). Holds (writes (second .rows) ws) (united g r s v) room × Inside (g .count) ws) is
+            (by-rank (λ (ws : List Write) (g′ : Groups). Holds (writes (second .rows) ws) g′ room × Inside (g .count) ws) (g .rank r) (g .rank s)
+              (onto s r) (onto r s) (λ k. hung g s r k v) (λ k. hung g r s k v)
+              (λ k q. let G = hangs-b g (H .whole) a b ha hb d v m k q in (hung-holds both-hold a b s r k v G real (hung-whole (H .whole) a b s r k v G), (hs, (hr, tt))))
+              (λ k q. let G = hangs-a g (H .whole) a b ha hb d v m k q in (hung-holds both-hold a b r s k v G real (hung-whole (H .whole) a b r s k v G), (hr, (hs, tt)))))
+
+      join-settled : (m : Merged) → merge (valueOf (rowAt (second .rows) (replay now .root a))) (valueOf (rowAt (second .rows) (replay now .root b))) ≡ m
+          → Planned rs room now (Join a b) (settle walked (first .steps + second .steps) (unite (second .rows) (replay now .root a) (replay now .root b)) m)
+      unfolding step
+      join-settled Clash e = rests (Join a b) (plan (stepped 4 (first .steps + second .steps)) walked) refl walked-hold both-inside (calm 4 refl refl)
+      join-settled TooMuch e = rests (Join a b) (plan (stepped 5 (first .steps + second .steps)) walked) refl walked-hold both-inside (calm 5 refl refl)
+      join-settled (Both v) e =
+          let g : Groups = replay now in
+          let r : ℕ = g .root a in
+          let s : ℕ = g .root b in
+          let vr : valueOf (rowAt (second .rows) r) ≡ g .value r = root-value both-hold r (H .whole .within a ha) (H .whole .settled a) in
+          let vs : valueOf (rowAt (second .rows) s) ≡ g .value s = root-value both-hold s (H .whole .within b hb) (H .whole .settled b) in
+          let m : merge (g .value r) (g .value s) ≡ Both v = sym (ap₂ merge vr vs) ∙ e in
+          let real-s : Real (g .value s .owner) = subst (λ (z : Value). Real (z .owner)) vs (real-owner (getD (second .rows .owners) s 0)) in
+          let U = united-holds v m (real-merge both-hold r (g .value r) (g .value s) v vr real-s m) in
+          let q : eqb r s ≡ false = ne-eqb r s d in
+          let uniting : List Write = unite (second .rows) r s v in
+          let count : united g r s v .count ≡ g .count =
+            by-rank (λ (_ : ℕ) (g′ : Groups). g′ .count ≡ g .count) (g .rank r) (g .rank s) (λ k. k) (λ k. k) (λ k. hung g s r k v) (λ k. hung g r s k v) (λ k _. refl) (λ k _. refl) in
+          moving (Join a b) (plan (stepped DONE (first .steps + second .steps)) (walked ++ uniting)) (joined a b) refl (ha, hb, inr (v, m)) (rw (q, m) count)
+            (rw (writes-append rs walked uniting, both-rows, q, m) (U .0))
+            (inside-append (g .count) walked uniting both-inside (U .1)) (calm 0 refl refl)
+
+    pub join-planned : Planned rs room now (Join a b) (walkBoth rs (replay now .count) a b joinOn)
+    join-planned =
+        let r : ℕ = replay now .root a in
+        let s : ℕ = replay now .root b in
+        rw (both-end joinOn)
+          (planned-cond (eqb r s)
+            (λ e. join-same (eqb-true r s e))
+            (λ e. rw (not-high (eqb-false r s e)) (join-settled (eqb-false r s e) (merge (valueOf (rowAt (second .rows) r)) (valueOf (rowAt (second .rows) s))) refl)))

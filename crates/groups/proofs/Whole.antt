@@ -92,7 +92,7 @@ join-cases P g W a b acc f h =
 -- ---- each step
 
 module _ {g : Groups} (W : Whole g) where
-  hung-whole : (a b low high k : ℕ) (v : Value) → Hangs g a b low high k v → Whole (hung g low high k v)
+  pub hung-whole : (a b low high k : ℕ) (v : Value) → Hangs g a b low high k v → Whole (hung g low high k v)
   hung-whole a b low high k v H =
       let d : low ≢ high = H .apart in
       let el : g .root low ≡ low = H .low-root in
