@@ -9,3 +9,4 @@ pub mod Walks
 pub mod Undoing
 pub mod Logging
 pub mod Plans
+pub mod Calls
