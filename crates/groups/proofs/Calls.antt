@@ -23,7 +23,7 @@ use Rattle.rules.specs.declared.table.Sought.the-variants.{Missing, Held}
 use Rattle.rules.specs.declared.table.UndoLog.{UndoLog}
 use Rattle.rules.specs.declared.table.UndoLog.the-variants.{NewElem}
 use Rattle.rules.specs.Numbers.{DONE, MAX-OPEN, MAX-ROWS, MAX-ENTRIES, MAX-U64}
-use Rattle.rules.specs.Lent.{Rows, Log, Table, table, value, ownerOf, row, rowAt, putRow, mark, markAt, counting}
+use Rattle.rules.specs.Lent.{Rows, Log, Table, table, value, ownerOf, row, rowAt, putRow, mark, markAt, fresh, counting}
 use Rattle.rules.specs.Answer.{answer, refusal, found, said, range, opened, answered}
 use Rattle.rules.specs.Write.{memoryOf, logged, full, puts, writes}
 use Rattle.rules.specs.Plan.{Plan, Walked, walk, walkBoth, findOn, unionedOn, joinOn, postOn, probeOn, probeKeyOn, tryProbe}
@@ -38,7 +38,7 @@ use Rattle.groups.proofs.RowLaws.{Real, real-owner, wide-put, alike-pas
 use Rattle.groups.proofs.Whole.{Whole, whole}
 use Rattle.groups.proofs.Forest.{created-shows, shows-none}
 use Rattle.groups.proofs.Walks.{Holds, wrote}
-use Rattle.groups.proofs.Undoing.{back-marks, back-alike, back-commit, back-fits}
+use Rattle.groups.proofs.Undoing.{undoable-le, wide-undo, back-marks, back-alike, back-commit, back-fits}
 use Rattle.groups.proofs.Logging.{Logged, log-one, log-puts, puts-rows}
 use Rattle.groups.proofs.Plans.{Calm, calm, Quiet, after, Planned, find-planned, probe-planned, probe-key-planned, try-planned, post-planned, unioned-planned, join-planned}
 
@@ -93,7 +93,7 @@ module _ {t : Table} {h : History} (S : Stands t h) where
         made = rw n M;
         back = rw n (L .back);
         orderly = (quiet-follows (act e) (lastToken h) (track h .saved) q, S .orderly);
-        serials = rw (quiet-newer (act e) (lastToken h) q) (S .serials)
+        serials = rw (quiet-newer (act e) (lastToken h) q) (S .serials);
       }
 
   as-logged : Logged (markAt (t .state)) (S .log-room) (t .log) (t .state .used) (t .state .count) (t .rows) (track h .saved)
@@ -103,7 +103,7 @@ module _ {t : Table} {h : History} (S : Stands t h) where
   keeps-idle : (c : Call) (a : Answer) → act (event c a) ≡ idle → Calm (a .no) → Keeps h c (outcome a t)
   keeps-idle c a e z = record {
     stands = stands-on (event c a) (t .rows) (t .log) (t .state .count) (t .state .used) (rw e tt) (S .lends .row-parts) (S .fits) as-logged (rw e (S .made));
-    peace = z
+    peace = z;
   }
 
   keeps-refused : (c : Call) (n : ℕ) → eqb n DONE ≡ false → Calm n → Keeps h c (refused n t)
@@ -117,7 +117,7 @@ module _ {t : Table} {h : History} (S : Stands t h) where
     whole = whole (track h .now) (S .made .accepted);
     wide = S .lends .row-parts;
     fits = rw (S .made .counted) (S .fits);
-    limit = S .lends .row-limit
+    limit = S .lends .row-limit;
   }
 
   -- There is room in the log, or nothing is logged.
@@ -129,25 +129,25 @@ module _ {t : Table} {h : History} (S : Stands t h) where
   keeps-carry : (c : Call) (p : Plan) → Planned (t .rows) (S .room) (track h .now) c p → Keeps h c (carry t p)
   keeps-carry c p P =
       keeps-cond (full (memoryOf t) (length (p .todo))) (λ _. keeps-refused c 3 refl (calm 3 refl refl)) (λ e.
-        let r : puts (memoryOf t) (p .todo) .rows ≡ writes (t .rows) (p .todo) = puts-rows (p .todo) (memoryOf t) in
-        record {
-          stands = stands-on (event c (p .answer)) (puts (memoryOf t) (p .todo) .rows) (puts (memoryOf t) (p .todo) .log) (t .state .count) (puts (memoryOf t) (p .todo) .used) (P .quiet)
+      let r : puts (memoryOf t) (p .todo) .rows ≡ writes (t .rows) (p .todo) = puts-rows (p .todo) (memoryOf t) in
+      record {
+        stands = stands-on (event c (p .answer)) (puts (memoryOf t) (p .todo) .rows) (puts (memoryOf t) (p .todo) .log) (t .state .count) (puts (memoryOf t) (p .todo) .used) (P .quiet)
             (rw r (P .holds .wide)) (S .fits)
             (log-puts (markAt (t .state)) (S .log-room) (p .todo) (memoryOf t) (t .state .count) (track h .saved) (S .opened) (free (length (p .todo)) e) (rw (S .made .counted) at (P .inside)) as-logged)
             (rw r (record { accepted = P .accepted; counted = P .counted ∙ S .made .counted; shows = P .holds .shows }));
-          peace = P .peace
-        })
+        peace = P .peace;
+      })
 
   keeps-live : (c : Call) (key : ℕ) (p : Plan) → (key < replay (track h .now) .count → Planned (t .rows) (S .room) (track h .now) c p) → Keeps h c (live t key p)
   keeps-live c key p f =
       keeps-cond (leb (t .state .count) key) (λ _. keeps-refused c 1 refl (calm 1 refl refl))
-        (λ e. keeps-carry c p (f (omega (arith, leb-false (t .state .count) key e, S .made .counted))))
+      (λ e. keeps-carry c p (f (omega (arith, leb-false (t .state .count) key e, S .made .counted))))
 
   keeps-one : (c : Call) (key : ℕ) (next : Walked → Plan)
       → (key < replay (track h .now) .count → Planned (t .rows) (S .room) (track h .now) c (walk (t .rows) (replay (track h .now) .count) key next)) → Keeps h c (one t key next)
   keeps-one c key next f =
       keeps-live c key (walk (t .rows) (t .state .count) key next)
-        (λ q. subst (λ (n : ℕ). Planned (t .rows) (S .room) (track h .now) c (walk (t .rows) n key next)) (S .made .counted) (f q))
+      (λ q. subst (λ (n : ℕ). Planned (t .rows) (S .room) (track h .now) c (walk (t .rows) n key next)) (S .made .counted) (f q))
 
   keeps-two : (c : Call) (a b : ℕ) (next : Walked → Walked → Plan)
       → (a < replay (track h .now) .count → b < replay (track h .now) .count → Planned (t .rows) (S .room) (track h .now) c (walkBoth (t .rows) (replay (track h .now) .count) a b next))
@@ -156,9 +156,9 @@ module _ {t : Table} {h : History} (S : Stands t h) where
       let n : ℕ = t .state .count in
       let no : Keeps h c (refused 1 t) = keeps-refused c 1 refl (calm 1 refl refl) in
       cases (leb n a) (λ e. rw e no) (λ e. cases (leb n b) (λ e′. rw (e, e′) no) (λ e′. rw (e, e′)
-        (keeps-carry c (walkBoth (t .rows) n a b next)
-          (subst (λ (m : ℕ). Planned (t .rows) (S .room) (track h .now) c (walkBoth (t .rows) m a b next)) (S .made .counted)
-            (f (omega (arith, leb-false n a e, S .made .counted)) (omega (arith, leb-false n b e′, S .made .counted)))))))
+      (keeps-carry c (walkBoth (t .rows) n a b next)
+      (subst (λ (m : ℕ). Planned (t .rows) (S .room) (track h .now) c (walkBoth (t .rows) m a b next)) (S .made .counted)
+      (f (omega (arith, leb-false n a e, S .made .counted)) (omega (arith, leb-false n b e′, S .made .counted)))))))
 
   -- ---- a new key
 
@@ -170,8 +170,8 @@ module _ {t : Table} {h : History} (S : Stands t h) where
         accepted = (sym e, S .made .accepted);
         counted = omega arith;
         shows = subst (λ (k : ℕ). Shows (putRow (t .rows) k (row k 0 v)) (groupStep g (created k v))) e
-          (created-shows (S .made .shows) (holds .whole) (putRow (t .rows) (g .count) (row (g .count) 0 v)) v
-            (wrote (t .rows) (S .room) (g .count) (row (g .count) 0 v) (S .lends .row-parts) (omega arith) real))
+            (created-shows (S .made .shows) (holds .whole) (putRow (t .rows) (g .count) (row (g .count) 0 v)) v
+            (wrote (t .rows) (S .room) (g .count) (row (g .count) 0 v) (S .lends .row-parts) (omega arith) real));
       }
 
   keeps-new : (owner amount : ℕ) → Keeps h (New owner amount) (new t (value (ownerOf owner) amount))
@@ -183,21 +183,21 @@ module _ {t : Table} {h : History} (S : Stands t h) where
       let rs : Rows = putRow (t .rows) n (row n 0 v) in
       let w : WideRows rs (S .room) = wide-put (t .rows) (S .room) n (row n 0 v) (S .lends .row-parts) in
       keeps-cond (eqb n (length (t .rows .parents))) (λ _. keeps-refused c 2 refl (calm 2 refl refl)) (λ e.
-        let f : n < S .room = omega (arith, eqb-false n (length (t .rows .parents)) e, S .lends .row-parts .0, S .fits) in
-        keeps-cond (full (memoryOf t) 1) (λ _. keeps-refused c 3 refl (calm 3 refl refl)) (λ e′.
-          record {
-            stands = stands-on (event c (found n 0)) rs (logged (NewElem n) (memoryOf t) .log) (n + 1) (logged (NewElem n) (memoryOf t) .used) tt w (omega arith)
-              (log-one (markAt (t .state)) (S .log-room) (memoryOf t) n (n + 1) rs rs (track h .saved) (NewElem n) (S .opened) (free 1 e′) tt refl
-                (λ keys es p. rw (eq-eqb (n + 1) (n + 1) refl) p)
-                (record {
-                  wide = S .lends .log-parts;
-                  fits = S .log-fits;
-                  back = back-alike (S .room) (t .log) (markAt (t .state)) (t .state .used) n (t .rows) rs (track h .saved) (S .fits) (S .lends .row-parts) w
-                    (alike-past n (t .rows) n (row n 0 v) (λ j q z. omega arith)) (S .back)
-                }))
-              (grown-made v n (S .made .counted) f (real-owner owner));
-            peace = calm 0 refl refl
-          }))
+      let f : n < S .room = omega (arith, eqb-false n (length (t .rows .parents)) e, S .lends .row-parts .0, S .fits) in
+      keeps-cond (full (memoryOf t) 1) (λ _. keeps-refused c 3 refl (calm 3 refl refl)) (λ e′.
+      record {
+        stands = stands-on (event c (found n 0)) rs (logged (NewElem n) (memoryOf t) .log) (n + 1) (logged (NewElem n) (memoryOf t) .used) tt w (omega arith)
+            (log-one (markAt (t .state)) (S .log-room) (memoryOf t) n (n + 1) rs rs (track h .saved) (NewElem n) (S .opened) (free 1 e′) tt refl
+            (λ keys es p. rw (eq-eqb (n + 1) (n + 1) refl) p)
+            (record {
+              wide = S .lends .log-parts;
+              fits = S .log-fits;
+              back = back-alike (S .room) (t .log) (markAt (t .state)) (t .state .used) n (t .rows) rs (track h .saved) (S .fits) (S .lends .row-parts) w
+                  (alike-past n (t .rows) n (row n 0 v) (λ j q z. omega arith)) (S .back);
+            }))
+            (grown-made v n (S .made .counted) f (real-owner owner));
+        peace = calm 0 refl refl;
+      }))
 
   -- ---- calls that leave rows and log alone
 
@@ -214,12 +214,15 @@ module _ {t : Table} {h : History} (S : Stands t h) where
       let xs : List Saved = track h .saved in
       let new-mark : Mark = mark (s .last + 1) (s .used) (s .count) in
       let here : markAt (marked s) (length xs) ≡ new-mark =
-        subst (λ (k : ℕ). markAt (marked s) k ≡ new-mark) (S .opened) (getD-set-same (s .marks) (s .«open») new-mark (mark 0 0 0) (omega (arith, S .opened, S .marks-kept))) in
+      subst (λ (k : ℕ). markAt (marked s) k ≡ new-mark) (S .opened) (getD-set-same (s .marks) (s .«open») new-mark (mark 0 0 0) (omega (arith, S .opened, S .marks-kept))) in
       let none : s .used - s .used ≡ 0 = omega arith in
       rw (here, none) (
-        refl, le-refl (s .used), eq-eqb (s .count) (s .count) refl, S .made,
+        refl,
+        le-refl (s .used),
+        eq-eqb (s .count) (s .count) refl,
+        S .made,
         back-marks (t .log) (markAt s) (markAt (marked s)) (s .used) (s .count) (t .rows) xs
-          (λ k q. getD-set-other (s .marks) (s .«open») k new-mark (mark 0 0 0) (λ z. omega (arith, S .opened))) (S .back)
+            (λ k q. getD-set-other (s .marks) (s .«open») k new-mark (mark 0 0 0) (λ z. omega (arith, S .opened))) (S .back),
       )
 
   keeps-snapshot : Keeps h Snapshot (resting t (snapshot (t .state)))
@@ -227,22 +230,232 @@ module _ {t : Table} {h : History} (S : Stands t h) where
   keeps-snapshot =
       let s : State = t .state in
       resting-cond (eqb (s .«open») MAX-OPEN) (λ _. keeps-refused Snapshot 7 refl (calm 7 refl refl)) (λ e.
-        let f : length (track h .saved) < MAX-OPEN = omega (arith, eqb-false (s .«open») MAX-OPEN e, S .opened, S .open-fits) in
-        resting-cond (eqb (s .last) MAX-U64) (λ _. keeps-refused Snapshot 10 refl (calm 10 refl refl)) (λ _.
-          record {
-            stands = record {
-              room = S .room;
-              log-room = S .log-room;
-              lends = S .lends;
-              fits = S .fits;
-              log-fits = S .log-fits;
-              marks-kept = length-set (s .marks) (s .«open») (mark (s .last + 1) (s .used) (s .count)) ∙ S .marks-kept;
-              open-fits = f;
-              opened = omega (arith, S .opened);
-              made = S .made;
-              back = back-marked f;
-              orderly = (omega (arith, S .serials), S .orderly);
-              serials = le-refl (s .last + 1)
-            };
-            peace = calm 0 refl refl
-          }))
+      let f : length (track h .saved) < MAX-OPEN = omega (arith, eqb-false (s .«open») MAX-OPEN e, S .opened, S .open-fits) in
+      resting-cond (eqb (s .last) MAX-U64) (λ _. keeps-refused Snapshot 10 refl (calm 10 refl refl)) (λ _.
+      record {
+        stands = record {
+          room = S .room;
+          log-room = S .log-room;
+          lends = S .lends;
+          fits = S .fits;
+          log-fits = S .log-fits;
+          marks-kept = length-set (s .marks) (s .«open») (mark (s .last + 1) (s .used) (s .count)) ∙ S .marks-kept;
+          open-fits = f;
+          opened = omega (arith, S .opened);
+          made = S .made;
+          back = back-marked f;
+          orderly = (omega (arith, S .serials), S .orderly);
+          serials = le-refl (s .last + 1);
+        };
+        peace = calm 0 refl refl;
+      }))
+
+  -- ---- rollback and commit
+
+  -- The innermost snapshot, where one is open.
+  module _ (x : Saved) (xs : List Saved) (e : track h .saved ≡ x ∷ xs) where
+    inner-back : Leads-back (t .log) (markAt (t .state)) (t .state .used) (t .state .count) (t .rows) (x ∷ xs)
+    inner-back = rw e at (S .back)
+
+    some-open : t .state .«open» ≡ suc (length xs)
+    some-open = S .opened ∙ ap length e
+
+    busy : t .state .«open» ≢ 0
+    busy z = omega (arith, some-open)
+
+    left-open : t .state .«open» - 1 ≡ length xs
+    left-open = omega (arith, some-open)
+
+    abbrev inner : Mark
+    inner = markAt (t .state) (length xs)
+
+    inner-is : innermost (t .state) ≡ inner
+    inner-is = ap (markAt (t .state)) left-open
+
+    inner-fits : unfit (t .state) inner ≡ false
+    inner-fits =
+        let (p, q) = back-fits (t .log) (markAt (t .state)) (t .state .used) (t .state .count) (t .rows) (x ∷ xs) inner-back (length xs) (le-refl (suc (length xs))) in
+        rw (le-ltb (t .state .used) (inner .«log_len») p, le-ltb (t .state .count) (inner .keys) q)
+
+    undone-stands : (token : ℕ) → inner .serial ≡ token
+        → Stands (table (undo (t .rows) (since (t .log) (t .state) inner)) (t .log) (rolledBack (t .state) inner)) (event (Rollback token) (refusal DONE) ∷ h)
+    unfolding track lastToken Orderly
+    undone-stands token q =
+        let (serial, len, able, made, rest) = inner-back in
+        let es : List UndoLog = since (t .log) (t .state) inner in
+        let f : suc (length xs) ≤ MAX-OPEN = rw e at (S .open-fits) in
+        record {
+          room = S .room;
+          log-room = S .log-room;
+          lends = record {
+            row-parts = wide-undo (t .rows) (S .room) es (S .lends .row-parts);
+            log-parts = S .lends .log-parts;
+            row-limit = S .lends .row-limit;
+            log-limit = S .lends .log-limit;
+          };
+          fits = omega (arith, undoable-le (inner .keys) (t .state .count) es able, S .fits);
+          log-fits = omega (arith, S .log-fits);
+          marks-kept = S .marks-kept;
+          open-fits = rw e (omega arith);
+          opened = rw e left-open;
+          made = rw e made;
+          back = rw e rest;
+          orderly = (rw e (sym serial ∙ q), S .orderly);
+          serials = S .serials;
+        }
+
+    keeps-undone : (token : ℕ) → Keeps h (Rollback token) (rollback t token)
+    keeps-undone token =
+        rw (inner-is, ne-eqb (t .state .«open») 0 busy)
+        (cases (eqb (inner .serial) token)
+        (λ q. rw (q, inner-fits, inner-back .2)
+        (record { stands = undone-stands token (eqb-true (inner .serial) token q); peace = calm 0 refl refl }))
+        (λ q. rw q (keeps-refused (Rollback token) 6 refl (calm 6 refl refl))))
+
+    closed-stands : (token : ℕ) → inner .serial ≡ token → (used : ℕ) → used ≤ t .state .used → Leads-back (t .log) (markAt (t .state)) used (t .state .count) (t .rows) xs
+        → Stands (table (t .rows) (t .log) (counting (t .state) (t .state .count) used (t .state .«open» - 1))) (event (Commit token) (refusal DONE) ∷ h)
+    unfolding track lastToken Orderly
+    closed-stands token q used u back =
+        let (serial, len, able, made, rest) = inner-back in
+        let f : suc (length xs) ≤ MAX-OPEN = rw e at (S .open-fits) in
+        record {
+          room = S .room;
+          log-room = S .log-room;
+          lends = S .lends;
+          fits = S .fits;
+          log-fits = omega (arith, S .log-fits);
+          marks-kept = S .marks-kept;
+          open-fits = rw e (omega arith);
+          opened = rw e left-open;
+          made = S .made;
+          back = rw e back;
+          orderly = (rw e (sym serial ∙ q), S .orderly);
+          serials = S .serials;
+        }
+
+  none-open : track h .saved ≡ [] → t .state .«open» ≡ 0
+  none-open e = S .opened ∙ ap length e
+
+  keeps-rollback : (token : ℕ) (ys : List Saved) → track h .saved ≡ ys → Keeps h (Rollback token) (rollback t token)
+  keeps-rollback token [] e = rw (eq-eqb (t .state .«open») 0 (none-open e)) (keeps-refused (Rollback token) 6 refl (calm 6 refl refl))
+  keeps-rollback token (x ∷ xs) e = keeps-undone x xs e token
+
+  -- The only open snapshot, and one of several.
+  keeps-commit : (token : ℕ) (ys : List Saved) → track h .saved ≡ ys → Keeps h (Commit token) (resting t (commit (t .state) token))
+  keeps-commit token [] e = rw (eq-eqb (t .state .«open») 0 (none-open e)) (keeps-refused (Commit token) 6 refl (calm 6 refl refl))
+  keeps-commit token (x ∷ []) e =
+      let m : Mark = inner x [] e in
+      let only : t .state .«open» ≡ 1 = some-open x [] e in
+      rw (inner-is x [] e, ne-eqb (t .state .«open») 0 (busy x [] e))
+      (cases (eqb (m .serial) token)
+      (λ q. rw (q, inner-fits x [] e, eq-eqb (t .state .«open») 1 only, le-ltb 0 (m .«log_len») (omega (arith, inner-back x [] e .4)))
+      (record { stands = closed-stands x [] e token (eqb-true (m .serial) token q) 0 zero-le refl; peace = calm 0 refl refl }))
+      (λ q. rw q (keeps-refused (Commit token) 6 refl (calm 6 refl refl))))
+  keeps-commit token (x ∷ y ∷ zs) e =
+      let m : Mark = inner x (y ∷ zs) e in
+      let more : t .state .«open» ≢ 1 = λ z. omega (arith, some-open x (y ∷ zs) e) in
+      rw (inner-is x (y ∷ zs) e, ne-eqb (t .state .«open») 0 (busy x (y ∷ zs) e))
+      (cases (eqb (m .serial) token)
+      (λ q. rw (q, inner-fits x (y ∷ zs) e, ne-eqb (t .state .«open») 1 more)
+      (record {
+        stands = closed-stands x (y ∷ zs) e token (eqb-true (m .serial) token q) (t .state .used) (le-refl (t .state .used))
+            (back-commit (t .log) (markAt (t .state)) (t .state .used) (t .state .count) (t .rows) x y zs (inner-back x (y ∷ zs) e));
+        peace = calm 0 refl refl;
+      }))
+      (λ q. rw q (keeps-refused (Commit token) 6 refl (calm 6 refl refl))))
+
+  -- ---- questions
+
+  keeps-asked : (c : Call) (token : ℕ) (reply : Mark → Answer) → ((m : Mark) → act (event c (reply m)) ≡ idle) → ((m : Mark) → Calm (reply m .no)) → (n : ℕ) → n ≤ length (track h .saved)
+      → Keeps h c (resting t (asked (t .state) reply (seek (t .state) token n)))
+  unfolding seek
+  keeps-asked c token reply i z zero f = keeps-refused c 11 refl (calm 11 refl refl)
+  keeps-asked c token reply i z (suc n) f =
+      let m : Mark = markAt (t .state) n in
+      let (p, q) = back-fits (t .log) (markAt (t .state)) (t .state .used) (t .state .count) (t .rows) (track h .saved) (S .back) n f in
+      cases (eqb (m .serial) token)
+      (λ e. rw (e, le-ltb (t .state .used) (m .«log_len») p, le-ltb (t .state .count) (m .keys) q) (keeps-idle c (reply m) (i m) (z m)))
+      (λ e. rw e (keeps-asked c token reply i z n (omega arith)))
+
+  keeps-ask : (c : Call) (token : ℕ) (reply : Mark → Answer) → ((m : Mark) → act (event c (reply m)) ≡ idle) → ((m : Mark) → Calm (reply m .no))
+      → Keeps h c (resting t (ask (t .state) token reply))
+  keeps-ask c token reply i z = keeps-asked c token reply i z (t .state .«open») (omega (arith, S .opened))
+
+  -- ---- any call
+
+  keeps-call : (c : Call) → Keeps h c (call t c)
+  unfolding call
+  keeps-call (New owner amount) = keeps-new owner amount
+  keeps-call Len = keeps-idle Len (range 0 (t .state .count)) refl (calm 0 refl refl)
+  keeps-call (Find key) = keeps-one (Find key) key findOn (find-planned (track h .now) (S .made .accepted) holds key)
+  keeps-call (Unioned a b) = keeps-two (Unioned a b) a b unionedOn (unioned-planned (track h .now) (S .made .accepted) holds a b)
+  keeps-call (Join a b) = keeps-two (Join a b) a b joinOn (join-planned (track h .now) (S .made .accepted) holds a b)
+  keeps-call (Post key owner amount) =
+      keeps-one (Post key owner amount) key (postOn (value (ownerOf owner) amount)) (post-planned (track h .now) (S .made .accepted) holds key owner amount)
+  keeps-call (Probe key) = keeps-one (Probe key) key probeOn (probe-planned (track h .now) (S .made .accepted) holds key)
+  keeps-call (ProbeKey key) = keeps-one (ProbeKey key) key probeKeyOn (probe-key-planned (track h .now) (S .made .accepted) holds key)
+  keeps-call (TryProbe key) = keeps-live (TryProbe key) key (tryProbe (t .rows) key) (λ _. try-planned (track h .now) (S .made .accepted) holds key)
+  keeps-call Snapshot = keeps-snapshot
+  keeps-call (Rollback token) = keeps-rollback token (track h .saved) refl
+  keeps-call (Commit token) = keeps-commit token (track h .saved) refl
+  keeps-call (Keys token) = keeps-ask (Keys token) token (λ m. range (m .keys) (t .state .count)) (λ m. refl) (λ m. calm 0 refl refl)
+  keeps-call (Actions token) = keeps-ask (Actions token) token (λ m. range (m .«log_len») (t .state .used)) (λ m. refl) (λ m. calm 0 refl refl)
+  keeps-call (Changes token) = keeps-ask (Changes token) token (λ m. said (ltb (m .«log_len») (t .state .used)) 0) (λ m. refl) (λ m. calm 0 refl refl)
+
+  -- "nothing open and used not 0" is not so.
+  nothing-used : (ys : List Saved) → track h .saved ≡ ys → cond (eqb (t .state .«open») 0) (not (eqb (t .state .used) 0)) false ≡ false
+  nothing-used [] e =
+      let u : t .state .used ≡ 0 = rw e at (S .back) in rw (eq-eqb (t .state .«open») 0 (none-open e), eq-eqb (t .state .used) 0 u)
+  nothing-used (x ∷ xs) e = rw (ne-eqb (t .state .«open») 0 (busy x xs e))
+
+  -- The state and what is lent are not bad.
+  not-bad : bad (sizesOf t) (t .state) ≡ false
+  unfolding bad
+  not-bad =
+      let R = S .lends .row-parts in
+      let L = S .lends .log-parts in
+      let n : ℕ = S .room in
+      let k : ℕ = S .log-room in
+      rw (
+        R .0,
+        R .1,
+        R .2,
+        R .3,
+        L .0,
+        L .1,
+        L .2 .0,
+        L .2 .1,
+        L .2 .2,
+        L .2 .3,
+        le-ltb MAX-ROWS n (S .lends .row-limit),
+        eq-eqb n n refl,
+        le-ltb MAX-ENTRIES k (S .lends .log-limit),
+        eq-eqb k k refl,
+        le-ltb n (t .state .count) (S .fits),
+        le-ltb k (t .state .used) (S .log-fits),
+        le-ltb MAX-OPEN (t .state .«open») (omega (arith, S .opened, S .open-fits)),
+        nothing-used (track h .saved) refl,
+      )
+
+  pub keeps : (c : Call) → Keeps h c (step t c)
+  unfolding step
+  keeps c = rw not-bad (keeps-call c)
+
+-- ---- the first case: a fresh table, whatever its lent rows and entries hold, and the empty history
+
+pub fresh-stands : (rs : Rows) (l : Log) (rows entries : ℕ) → Lends rs l rows entries → Stands (table rs l fresh) []
+unfolding track lastToken Orderly replay
+fresh-stands rs l rows entries L = record {
+  room = rows;
+  log-room = entries;
+  lends = L;
+  fits = zero-le;
+  log-fits = zero-le;
+  marks-kept = refl;
+  open-fits = zero-le;
+  opened = refl;
+  made = record { accepted = tt; counted = refl; shows = shows-none rs };
+  back = refl;
+  orderly = tt;
+  serials = zero-le;
+}

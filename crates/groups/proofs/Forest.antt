@@ -45,8 +45,8 @@ Wrote rs rs′ x r = (rowAt rs′ x ≡ r) × ((j : ℕ) → j ≢ x → rowAt r
 wrote-keeps : {A : Type 0} (f : Row → A) (rs rs′ : Rows) (x : ℕ) (r : Row) → Wrote rs rs′ x r → f r ≡ f (rowAt rs x) → (j : ℕ) → f (rowAt rs′ j) ≡ f (rowAt rs j)
 wrote-keeps f rs rs′ x r w e j =
     bySame j x
-      (λ q. subst⁻¹ (λ (z : ℕ). f (rowAt rs′ z) ≡ f (rowAt rs z)) q (ap f (w .0) ∙ e))
-      (λ d. ap f (w .1 j d))
+    (λ q. subst⁻¹ (λ (z : ℕ). f (rowAt rs′ z) ≡ f (rowAt rs z)) q (ap f (w .0) ∙ e))
+    (λ d. ap f (w .1 j d))
 
 module _ {rs : Rows} {g : Groups} (S : Shows rs g) where
   root-up : (i : ℕ) → i < g .count → up rs (g .root i) ≡ g .root i
@@ -82,10 +82,10 @@ module _ {rs : Rows} {g : Groups} (S : Shows rs g) where
         record {
           inside = λ i h. subst⁻¹ (λ (z : ℕ). z < g .count) (pa i h) (S .inside i h);
           rises = λ i h d. subst⁻¹ (λ (z : ℕ). high rs′ i < high rs′ z) (pa i h)
-            (omega (arith, ra i h, ra (up rs i) (S .inside i h), S .rises i h (λ e. d (pa i h ∙ e))));
+              (omega (arith, ra i h, ra (up rs i) (S .inside i h), S .rises i h (λ e. d (pa i h ∙ e))));
           leads = λ i h. alike-leads (S .leads i h) h;
           ranks = λ r h e. ra r h ∙ S .ranks r h (sym (pa r h) ∙ e);
-          values = λ r h e. sym (ap valueOf (same r h)) ∙ S .values r h (sym (pa r h) ∙ e)
+          values = λ r h e. sym (ap valueOf (same r h)) ∙ S .values r h (sym (pa r h) ∙ e);
         }
 
   -- ---- a compression: a row that is no root is redirected to its root, and keeps all else
@@ -120,23 +120,23 @@ module _ {rs : Rows} {g : Groups} (S : Shows rs g) where
     again {i} (here e q) h = here (stays i e) q
     again {i} {r} (along l) h =
         bySame i x
-          (λ e. let l′ : Leads (up rs) x r = subst (λ (z : ℕ). Leads (up rs) z r) e (along l) in
-            subst⁻¹ (λ (z : ℕ). Leads (up rs′) z r) e (subst (λ (z : ℕ). Leads (up rs′) x z) (leads-same (S .leads x hx) l′) turned))
-          (λ d. along (subst⁻¹ (λ (z : ℕ). Leads (up rs′) z r) (else-up i d) (again l (S .inside i h))))
+        (λ e. let l′ : Leads (up rs) x r = subst (λ (z : ℕ). Leads (up rs) z r) e (along l) in
+        subst⁻¹ (λ (z : ℕ). Leads (up rs′) z r) e (subst (λ (z : ℕ). Leads (up rs′) x z) (leads-same (S .leads x hx) l′) turned))
+        (λ d. along (subst⁻¹ (λ (z : ℕ). Leads (up rs′) z r) (else-up i d) (again l (S .inside i h))))
 
     pub compressed : Shows rs′ g
     compressed = record {
       inside = λ i h. bySame i x
-        (λ e. subst⁻¹ (λ (z : ℕ). z < g .count) (ap (up rs′) e ∙ moved) (W .within x hx))
-        (λ d. subst⁻¹ (λ (z : ℕ). z < g .count) (else-up i d) (S .inside i h));
+          (λ e. subst⁻¹ (λ (z : ℕ). z < g .count) (ap (up rs′) e ∙ moved) (W .within x hx))
+          (λ d. subst⁻¹ (λ (z : ℕ). z < g .count) (else-up i d) (S .inside i h));
       rises = λ i h m. bySame i x
-        (λ e. subst⁻¹ (λ (z : ℕ). high rs′ z < high rs′ (up rs′ z)) e (subst⁻¹ (λ (z : ℕ). high rs′ x < high rs′ z) moved
+          (λ e. subst⁻¹ (λ (z : ℕ). high rs′ z < high rs′ (up rs′ z)) e (subst⁻¹ (λ (z : ℕ). high rs′ x < high rs′ z) moved
           (omega (arith, same-rank x, same-rank (g .root x), S .rises x hx no-root, rank-up (leads-next (S .leads x hx)) (S .inside x hx)))))
-        (λ d. subst⁻¹ (λ (z : ℕ). high rs′ i < high rs′ z) (else-up i d)
+          (λ d. subst⁻¹ (λ (z : ℕ). high rs′ i < high rs′ z) (else-up i d)
           (omega (arith, same-rank i, same-rank (up rs i), S .rises i h (λ q. m (else-up i d ∙ q)))));
       leads = λ i h. again (S .leads i h) h;
       ranks = λ r h e. same-rank r ∙ S .ranks r h (was r e);
-      values = λ r h e. same-value r ∙ S .values r h (was r e)
+      values = λ r h e. same-value r ∙ S .values r h (was r e);
     }
 
   -- ---- a join: the root `low` is redirected to the root `top`, which gets rank k and a value
@@ -152,16 +152,16 @@ module _ {rs : Rows} {g : Groups} (S : Shows rs g) where
 
     up-else : (j : ℕ) → j ≢ low → up rs′ j ≡ up rs j
     up-else j d = bySame j top
-      (λ e. subst⁻¹ (λ (z : ℕ). up rs′ z ≡ up rs z) e (ap (λ (z : Row). z .parent) wt))
-      (λ d′. ap (λ (z : Row). z .parent) (rest j d d′))
+        (λ e. subst⁻¹ (λ (z : ℕ). up rs′ z ≡ up rs z) e (ap (λ (z : Row). z .parent) wt))
+        (λ d′. ap (λ (z : Row). z .parent) (rest j d d′))
 
     rank-top : high rs′ top ≡ k
     rank-top = ap (λ (z : Row). z .rank) wt
 
     rank-else : (j : ℕ) → j ≢ top → high rs′ j ≡ high rs j
     rank-else j d = bySame j low
-      (λ e. subst⁻¹ (λ (z : ℕ). high rs′ z ≡ high rs z) e (ap (λ (z : Row). z .rank) wl))
-      (λ d′. ap (λ (z : Row). z .rank) (rest j d′ d))
+        (λ e. subst⁻¹ (λ (z : ℕ). high rs′ z ≡ high rs z) e (ap (λ (z : Row). z .rank) wl))
+        (λ d′. ap (λ (z : Row). z .rank) (rest j d′ d))
 
     low-rank : high rs low ≡ g .rank low
     low-rank = S .ranks low (H .low-live) (is-root low (H .low-live) (H .low-root))
@@ -171,8 +171,8 @@ module _ {rs : Rows} {g : Groups} (S : Shows rs g) where
 
     rank-grows : (i : ℕ) → high rs i ≤ high rs′ i
     rank-grows i = bySame i top
-      (λ e. subst⁻¹ (λ (z : ℕ). high rs z ≤ high rs′ z) e (omega (arith, rank-top, top-rank, H .ranked .stays)))
-      (λ d. le-of-eq (sym (rank-else i d)))
+        (λ e. subst⁻¹ (λ (z : ℕ). high rs z ≤ high rs′ z) e (omega (arith, rank-top, top-rank, H .ranked .stays)))
+        (λ d. le-of-eq (sym (rank-else i d)))
 
     top-stays : up rs′ top ≡ top
     top-stays = up-else top (λ e. H .apart (sym e)) ∙ top-up
@@ -183,14 +183,14 @@ module _ {rs : Rows} {g : Groups} (S : Shows rs g) where
     joined-leads : {i q : ℕ} → Leads (up rs) i q → i < g .count → Leads (up rs′) i (shift (λ z. z) low top q)
     joined-leads {i} {q} (here e d) h =
         bySame i low
-          (λ m. subst⁻¹ (λ (z : ℕ). Leads (up rs′) i z) (shift-hit (λ z. z) low top q (sym d ∙ m)) (subst⁻¹ (λ (z : ℕ). Leads (up rs′) z top) m low-turned))
-          (λ m. subst⁻¹ (λ (z : ℕ). Leads (up rs′) i z) (shift-miss (λ z. z) low top q (λ t. m (d ∙ t))) (here (up-else i m ∙ e) d))
+        (λ m. subst⁻¹ (λ (z : ℕ). Leads (up rs′) i z) (shift-hit (λ z. z) low top q (sym d ∙ m)) (subst⁻¹ (λ (z : ℕ). Leads (up rs′) z top) m low-turned))
+        (λ m. subst⁻¹ (λ (z : ℕ). Leads (up rs′) i z) (shift-miss (λ z. z) low top q (λ t. m (d ∙ t))) (here (up-else i m ∙ e) d))
     joined-leads {i} {q} (along l) h =
         bySame i low
-          (λ m. subst⁻¹ (λ (z : ℕ). Leads (up rs′) i z)
-            (shift-hit (λ z. z) low top q (sym (leads-fixed (is-root low (H .low-live) (H .low-root)) (subst (λ (z : ℕ). Leads (up rs) z q) m (along l)))))
-            (subst⁻¹ (λ (z : ℕ). Leads (up rs′) z top) m low-turned))
-          (λ m. along (subst⁻¹ (λ (z : ℕ). Leads (up rs′) z (shift (λ z. z) low top q)) (up-else i m) (joined-leads l (S .inside i h))))
+        (λ m. subst⁻¹ (λ (z : ℕ). Leads (up rs′) i z)
+        (shift-hit (λ z. z) low top q (sym (leads-fixed (is-root low (H .low-live) (H .low-root)) (subst (λ (z : ℕ). Leads (up rs) z q) m (along l)))))
+        (subst⁻¹ (λ (z : ℕ). Leads (up rs′) z top) m low-turned))
+        (λ m. along (subst⁻¹ (λ (z : ℕ). Leads (up rs′) z (shift (λ z. z) low top q)) (up-else i m) (joined-leads l (S .inside i h))))
 
     not-low : (q : ℕ) → up rs′ q ≡ q → q ≢ low
     not-low q e m = H .apart (sym (sym up-low ∙ subst (λ (z : ℕ). up rs′ z ≡ z) m e))
@@ -201,22 +201,22 @@ module _ {rs : Rows} {g : Groups} (S : Shows rs g) where
     pub hung-shows : Shows rs′ (hung g low top k v)
     hung-shows = record {
       inside = λ i h. bySame i low
-        (λ e. subst⁻¹ (λ (z : ℕ). z < g .count) (ap (up rs′) e ∙ up-low) (H .high-live))
-        (λ d. subst⁻¹ (λ (z : ℕ). z < g .count) (up-else i d) (S .inside i h));
+          (λ e. subst⁻¹ (λ (z : ℕ). z < g .count) (ap (up rs′) e ∙ up-low) (H .high-live))
+          (λ d. subst⁻¹ (λ (z : ℕ). z < g .count) (up-else i d) (S .inside i h));
       rises = λ i h m. bySame i low
-        (λ e. subst⁻¹ (λ (z : ℕ). high rs′ z < high rs′ (up rs′ z)) e (subst⁻¹ (λ (z : ℕ). high rs′ low < high rs′ z) up-low
+          (λ e. subst⁻¹ (λ (z : ℕ). high rs′ z < high rs′ (up rs′ z)) e (subst⁻¹ (λ (z : ℕ). high rs′ low < high rs′ z) up-low
           (omega (arith, rank-top, rank-else low (H .apart), low-rank, H .ranked .above))))
-        (λ d. bySame i top
+          (λ d. bySame i top
           (λ e. absurd (m (subst⁻¹ (λ (z : ℕ). up rs′ z ≡ z) e top-stays)))
           (λ d′. subst⁻¹ (λ (z : ℕ). high rs′ i < high rs′ z) (up-else i d)
-            (omega (arith, rank-else i d′, rank-grows (up rs i), S .rises i h (λ q. m (up-else i d ∙ q))))));
+          (omega (arith, rank-else i d′, rank-grows (up rs i), S .rises i h (λ q. m (up-else i d ∙ q))))));
       leads = λ i h. joined-leads (S .leads i h) h;
       ranks = λ q h e. bySame q top
-        (λ m. subst⁻¹ (λ (z : ℕ). high rs′ z ≡ at top k (g .rank) z) m (rank-top ∙ sym (at-hit top k (g .rank) top refl)))
-        (λ d. rank-else q d ∙ S .ranks q h (old-root q e) ∙ sym (at-miss top k (g .rank) q d));
+          (λ m. subst⁻¹ (λ (z : ℕ). high rs′ z ≡ at top k (g .rank) z) m (rank-top ∙ sym (at-hit top k (g .rank) top refl)))
+          (λ d. rank-else q d ∙ S .ranks q h (old-root q e) ∙ sym (at-miss top k (g .rank) q d));
       values = λ q h e. bySame q top
-        (λ m. subst⁻¹ (λ (z : ℕ). valueOf (rowAt rs′ z) ≡ at top v (g .value) z) m (ap valueOf wt ∙ sym (at-hit top v (g .value) top refl)))
-        (λ d. ap valueOf (rest q (not-low q e) d) ∙ S .values q h (old-root q e) ∙ sym (at-miss top v (g .value) q d))
+          (λ m. subst⁻¹ (λ (z : ℕ). valueOf (rowAt rs′ z) ≡ at top v (g .value) z) m (ap valueOf wt ∙ sym (at-hit top v (g .value) top refl)))
+          (λ d. ap valueOf (rest q (not-low q e) d) ∙ S .values q h (old-root q e) ∙ sym (at-miss top v (g .value) q d));
     }
 
   -- ---- a post: the root r gets another value
@@ -233,8 +233,8 @@ module _ {rs : Rows} {g : Groups} (S : Shows rs g) where
           leads = λ i h. subst⁻¹ (λ (p : ℕ → ℕ). Leads p i (g .root i)) same (S .leads i h);
           ranks = λ q h e. ra q ∙ S .ranks q h (sym (pa q) ∙ e);
           values = λ q h e. bySame q r
-            (λ m. subst⁻¹ (λ (z : ℕ). valueOf (rowAt rs′ z) ≡ at r v (g .value) z) m (ap valueOf (w .0) ∙ sym (at-hit r v (g .value) r refl)))
-            (λ d. ap valueOf (w .1 q d) ∙ S .values q h (sym (pa q) ∙ e) ∙ sym (at-miss r v (g .value) q d))
+              (λ m. subst⁻¹ (λ (z : ℕ). valueOf (rowAt rs′ z) ≡ at r v (g .value) z) m (ap valueOf (w .0) ∙ sym (at-hit r v (g .value) r refl)))
+              (λ d. ap valueOf (w .1 q d) ∙ S .values q h (sym (pa q) ∙ e) ∙ sym (at-miss r v (g .value) q d));
         }
 
   -- ---- a new key
@@ -249,18 +249,18 @@ module _ {rs : Rows} {g : Groups} (S : Shows rs g) where
         let own : up rs′ n ≡ n = ap (λ (z : Row). z .parent) (w .0) in
         record {
           inside = λ i h. upTo n i h
-            (λ e. subst⁻¹ (λ (z : ℕ). up rs′ z < suc n) e (subst⁻¹ (λ (z : ℕ). z < suc n) own (le-refl (suc n))))
-            (λ h′. le-step (A .inside i h′));
+              (λ e. subst⁻¹ (λ (z : ℕ). up rs′ z < suc n) e (subst⁻¹ (λ (z : ℕ). z < suc n) own (le-refl (suc n))))
+              (λ h′. le-step (A .inside i h′));
           rises = λ i h d. upTo n i h (λ e. absurd (d (ap (up rs′) e ∙ own ∙ sym e))) (λ h′. A .rises i h′ d);
           leads = λ i h. upTo n i h
-            (λ e. subst⁻¹ (λ (z : ℕ). Leads (up rs′) z (g .root z)) e (here own (sym (W .outside n (le-refl n)))))
-            (λ h′. A .leads i h′);
+              (λ e. subst⁻¹ (λ (z : ℕ). Leads (up rs′) z (g .root z)) e (here own (sym (W .outside n (le-refl n)))))
+              (λ h′. A .leads i h′);
           ranks = λ i h e. upTo n i h
-            (λ m. subst⁻¹ (λ (z : ℕ). high rs′ z ≡ at n 0 (g .rank) z) m (ap (λ (z : Row). z .rank) (w .0) ∙ sym (at-hit n 0 (g .rank) n refl)))
-            (λ h′. A .ranks i h′ e ∙ sym (at-miss n 0 (g .rank) i (not-n i h′)));
+              (λ m. subst⁻¹ (λ (z : ℕ). high rs′ z ≡ at n 0 (g .rank) z) m (ap (λ (z : Row). z .rank) (w .0) ∙ sym (at-hit n 0 (g .rank) n refl)))
+              (λ h′. A .ranks i h′ e ∙ sym (at-miss n 0 (g .rank) i (not-n i h′)));
           values = λ i h e. upTo n i h
-            (λ m. subst⁻¹ (λ (z : ℕ). valueOf (rowAt rs′ z) ≡ at n v (g .value) z) m (ap valueOf (w .0) ∙ sym (at-hit n v (g .value) n refl)))
-            (λ h′. A .values i h′ e ∙ sym (at-miss n v (g .value) i (not-n i h′)))
+              (λ m. subst⁻¹ (λ (z : ℕ). valueOf (rowAt rs′ z) ≡ at n v (g .value) z) m (ap valueOf (w .0) ∙ sym (at-hit n v (g .value) n refl)))
+              (λ h′. A .values i h′ e ∙ sym (at-miss n v (g .value) i (not-n i h′)));
         }
 
 pub shows-none : (rs : Rows) → Shows rs noGroups
@@ -269,5 +269,5 @@ shows-none rs = record {
   rises = λ i h. absurd (not-suc-le-zero h);
   leads = λ i h. absurd (not-suc-le-zero h);
   ranks = λ i h. absurd (not-suc-le-zero h);
-  values = λ i h. absurd (not-suc-le-zero h)
+  values = λ i h. absurd (not-suc-le-zero h);
 }

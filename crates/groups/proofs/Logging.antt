@@ -42,7 +42,7 @@ module _ (marks : ℕ → Mark) (entries : ℕ) where
         wide = wide-entry (m .log) entries (m .used) e (L .wide);
         fits = room;
         back = back-entry (m .log) (putEntry (m .log) (m .used) e) marks (m .used) (m .used + 1) count count′ rs rs′ x xs e refl
-          (λ j h. entry-miss (m .log) (m .used) j e (λ z. omega arith)) (entry-hit (m .log) entries (m .used) (L .wide) (omega arith) e k) un able (L .back)
+            (λ j h. entry-miss (m .log) (m .used) j e (λ z. omega arith)) (entry-hit (m .log) entries (m .used) (L .wide) (omega arith) e k) un able (L .back);
       })
 
   -- A row is written, its old row logged.
@@ -53,8 +53,8 @@ module _ (marks : ℕ → Mark) (entries : ℕ) where
       let rs : Rows = m .rows in
       let i : ℕ = place w in
       log-one m count count rs (write rs w) xs (SetElem i (rowAt rs i)) o free (real-owner (getD (rs .owners) i 0))
-        (put-back rs i (edit w (rowAt rs i)))
-        (λ keys es p. rw (lt-ltb i count h) p) L
+      (put-back rs i (edit w (rowAt rs i)))
+      (λ keys es p. rw (lt-ltb i count h) p) L
 
   pub log-puts : (ws : List Write) (m : Memory) (count : ℕ) (xs : List Saved) → m .opened ≡ length xs → (m .opened ≢ 0 → m .used + length ws ≤ entries) → Inside count ws
       → Logged marks entries (m .log) (m .used) count (m .rows) xs → Logged marks entries (puts m ws .log) (puts m ws .used) count (puts m ws .rows) xs
@@ -62,8 +62,8 @@ module _ (marks : ℕ → Mark) (entries : ℕ) where
   log-puts [] m count xs o free i L = L
   log-puts (w ∷ ws) m count xs o free i L =
       log-puts ws (put m w) count xs o
-        (λ b. let f : m .used + suc (length ws) ≤ entries = free b in rw (ne-eqb (m .opened) 0 b) (omega arith)) (i .1)
-        (log-put m count xs w o (λ b. let f : m .used + suc (length ws) ≤ entries = free b in omega arith) (i .0) L)
+      (λ b. let f : m .used + suc (length ws) ≤ entries = free b in rw (ne-eqb (m .opened) 0 b) (omega arith)) (i .1)
+      (log-put m count xs w o (λ b. let f : m .used + suc (length ws) ≤ entries = free b in omega arith) (i .0) L)
 
 pub puts-rows : (ws : List Write) (m : Memory) → puts m ws .rows ≡ writes (m .rows) ws
 unfolding puts writes

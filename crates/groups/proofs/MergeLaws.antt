@@ -29,6 +29,7 @@ summed-is o n x e = cases (ltb MAX-U64 n) (λ q. absurd (no q)) (λ q. got q)
   where
     no : ltb MAX-U64 n ≡ true → ⊥
     no q = let f : TooMuch ≡ Both x = rw q at e in let z : _≡_ {A = ℕ} 0 1 = cc in omega arith
+
     got : ltb MAX-U64 n ≡ false → x ≡ value o n
     got q = let f : Both (value o n) ≡ Both x = rw q at e in cc
 
@@ -46,6 +47,7 @@ owned (Tenant a) (Tenant b) n x e = cases (eqb a b) (λ t. both t) (λ t. absurd
         let f : summed (Tenant a) n ≡ Both x = rw t at e in
         let q = summed-is (Tenant a) n x f in
         record { adds = ap (λ (v : Value). v .amount) q; names = λ k. rw q (λ y. inl y, λ y. elim y [ inl z ↦ z | inr z ↦ ap Tenant (eqb-true a b t) ∙ z ]) }
+
     clashed : eqb a b ≡ false → ⊥
     clashed t = let f : Clash ≡ Both x = rw t at e in let z : _≡_ {A = ℕ} 0 1 = cc in omega arith
 

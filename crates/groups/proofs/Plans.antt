@@ -80,8 +80,8 @@ module _ {rs : Rows} {g : Groups} {room : ℕ} (H : Holds rs g room) where
   real-merge : (r : ℕ) (w v x : Value) → valueOf (rowAt rs r) ≡ w → Real (v .owner) → merge w v ≡ Both x → Real (x .owner)
   real-merge r w v x e real m z =
       either (merge-sum w v x m .names 0 .0 z)
-        (λ q. real-owner (getD (rs .owners) r 0) (ap (λ (y : Value). y .owner) e ∙ q))
-        real
+      (λ q. real-owner (getD (rs .owners) r 0) (ap (λ (y : Value). y .owner) e ∙ q))
+      real
 
   hung-holds : (a b low top k : ℕ) (v : Value) → Hangs g a b low top k v → Real (v .owner) → Whole (hung g low top k v)
       → Holds (writes rs (redirect low top ∷ crown top k v ∷ [])) (hung g low top k v) room
@@ -96,13 +96,13 @@ module _ {rs : Rows} {g : Groups} {room : ℕ} (H : Holds rs g room) where
       let crowned : Row = edit (crown top k v) (rowAt rs₁ top) in
       record {
         shows = hung-shows (H .shows) (putRow rs₁ top crowned) a b low top k v G
-          (row-miss rs₁ top low crowned (G .apart) ∙ row-hit rs room low turned (H .wide) hl (real-owner (getD (rs .owners) low 0)))
-          (row-hit rs₁ room top crowned w₁ ht real ∙ ap (λ (z : Row). row (z .parent) k v) up₁)
-          (λ j d d′. row-miss rs₁ top j crowned d′ ∙ row-miss rs low j turned d);
+            (row-miss rs₁ top low crowned (G .apart) ∙ row-hit rs room low turned (H .wide) hl (real-owner (getD (rs .owners) low 0)))
+            (row-hit rs₁ room top crowned w₁ ht real ∙ ap (λ (z : Row). row (z .parent) k v) up₁)
+            (λ j d d′. row-miss rs₁ top j crowned d′ ∙ row-miss rs low j turned d);
         whole = W;
         wide = wide-put rs₁ room top crowned w₁;
         fits = H .fits;
-        limit = H .limit
+        limit = H .limit;
       }
 
   posted-holds : (r : ℕ) (v : Value) → r < g .count → Real (v .owner) → Whole (record { count = g .count; root = g .root; rank = g .rank; value = at r v (g .value) })
@@ -115,7 +115,7 @@ module _ {rs : Rows} {g : Groups} {room : ℕ} (H : Holds rs g room) where
         whole = W;
         wide = wide-put rs room r crowned (H .wide);
         fits = H .fits;
-        limit = H .limit
+        limit = H .limit;
       }
 
 -- ---- walks
@@ -141,7 +141,12 @@ module _ {rs : Rows} {room : ℕ} (now : List Deed) (A : Accepted now) (H : Hold
   rests : (c : Call) (p : Plan) → act (event c (p .answer)) ≡ idle → Holds (writes rs (p .todo)) (replay now) room → Inside (replay now .count) (p .todo) → Calm (p .answer .no)
       → Planned rs room now c p
   rests c p e K i z = record {
-    quiet = rw e tt; accepted = rw e A; counted = rw e refl; holds = rw e K; inside = i; peace = z
+    quiet = rw e tt;
+    accepted = rw e A;
+    counted = rw e refl;
+    holds = rw e K;
+    inside = i;
+    peace = z;
   }
 
   -- A plan that moves the groups by one deed.
@@ -149,7 +154,12 @@ module _ {rs : Rows} {room : ℕ} (now : List Deed) (A : Accepted now) (H : Hold
       → Holds (writes rs (p .todo)) (step (replay now) d) room → Inside (replay now .count) (p .todo) → Calm (p .answer .no) → Planned rs room now c p
   unfolding replay
   moving c p d e a n K i z = record {
-    quiet = rw e tt; accepted = rw e (a, A); counted = rw e n; holds = rw e K; inside = i; peace = z
+    quiet = rw e tt;
+    accepted = rw e (a, A);
+    counted = rw e n;
+    holds = rw e K;
+    inside = i;
+    peace = z;
   }
 
   -- A walk, and an answer read off what it leaves.
@@ -172,15 +182,15 @@ module _ {rs : Rows} {room : ℕ} (now : List Deed) (A : Accepted now) (H : Hold
   pub try-planned : (key : ℕ) → Planned rs room now (TryProbe key) (tryProbe rs key)
   unfolding writes
   try-planned key = cases (eqb (up rs key) key)
-    (λ e. rw e (rests (TryProbe key) (plan (answer DONE 0 0 (valueOf (rowAt rs key)) 0 true 0 0) []) refl H tt (calm 0 refl refl)))
-    (λ e. rw e (rests (TryProbe key) (plan (said false 0) []) refl H tt (calm 0 refl refl)))
+      (λ e. rw e (rests (TryProbe key) (plan (answer DONE 0 0 (valueOf (rowAt rs key)) 0 true 0 0) []) refl H tt (calm 0 refl refl)))
+      (λ e. rw e (rests (TryProbe key) (plan (said false 0) []) refl H tt (calm 0 refl refl)))
 
   -- ---- a post
 
   module _ (key owner amount : ℕ) (h : key < replay now .count) where
     post-settled : (m : Merged) → merge (valueOf (rowAt (walkFrom H key h .rows) (replay now .root key))) (value (ownerOf owner) amount) ≡ m
         → Planned rs room now (Post key owner amount)
-          (settle (walkFrom H key h .todo) (walkFrom H key h .steps) (λ x. crown (replay now .root key) (high (walkFrom H key h .rows) (replay now .root key)) x ∷ []) m)
+        (settle (walkFrom H key h .todo) (walkFrom H key h .steps) (λ x. crown (replay now .root key) (high (walkFrom H key h .rows) (replay now .root key)) x ∷ []) m)
     unfolding step
     post-settled Clash e = rests (Post key owner amount) (plan (stepped 4 (walkFrom H key h .steps)) (walkFrom H key h .todo)) refl (walk-holds H key h) (walk-inside H key h) (calm 4 refl refl)
     post-settled TooMuch e = rests (Post key owner amount) (plan (stepped 5 (walkFrom H key h .steps)) (walkFrom H key h .todo)) refl (walk-holds H key h) (walk-inside H key h) (calm 5 refl refl)
@@ -197,13 +207,13 @@ module _ {rs : Rows} {room : ℕ} (now : List Deed) (A : Accepted now) (H : Hold
         let crowned : List Write = crown r (high (w .rows) r) x ∷ [] in
         let W : Whole (record { count = g .count; root = g .root; rank = g .rank; value = at r x (g .value) }) = rw m at (step-whole (H .whole) (posted key v) a) in
         moving (Post key owner amount) (plan (stepped DONE (w .steps)) (w .todo ++ crowned)) (posted key v) refl a (rw m refl)
-          (rw (writes-append rs (w .todo) crowned, m) (posted-holds K r x hr (real-merge K r (g .value r) v x same (real-owner owner) m) W))
-          (inside-append (g .count) (w .todo) crowned (walk-inside H key h) (hr, tt)) (calm 0 refl refl)
+        (rw (writes-append rs (w .todo) crowned, m) (posted-holds K r x hr (real-merge K r (g .value r) v x same (real-owner owner) m) W))
+        (inside-append (g .count) (w .todo) crowned (walk-inside H key h) (hr, tt)) (calm 0 refl refl)
 
     pub post-planned : Planned rs room now (Post key owner amount) (walk rs (replay now .count) key (postOn (value (ownerOf owner) amount)))
     post-planned =
         rw (walk-ends H key h (postOn (value (ownerOf owner) amount)))
-          (post-settled (merge (valueOf (rowAt (walkFrom H key h .rows) (replay now .root key))) (value (ownerOf owner) amount)) refl)
+        (post-settled (merge (valueOf (rowAt (walkFrom H key h .rows) (replay now .root key))) (value (ownerOf owner) amount)) refl)
 
   -- ---- two walks
 
@@ -235,7 +245,7 @@ module _ {rs : Rows} {room : ℕ} (now : List Deed) (A : Accepted now) (H : Hold
     pub unioned-planned : Planned rs room now (Unioned a b) (walkBoth rs (replay now .count) a b unionedOn)
     unioned-planned =
         rw (both-end unionedOn)
-          (rests (Unioned a b) (plan (said (eqb (first .root) (second .root)) (first .steps + second .steps)) walked) refl walked-hold both-inside (calm 0 refl refl))
+        (rests (Unioned a b) (plan (said (eqb (first .root) (second .root)) (first .steps + second .steps)) walked) refl walked-hold both-inside (calm 0 refl refl))
 
     -- ---- a join
 
@@ -251,14 +261,14 @@ module _ {rs : Rows} {room : ℕ} (now : List Deed) (A : Accepted now) (H : Hold
       not-high =
           let g : Groups = replay now in
           let low : (i : ℕ) → i < g .count → high (second .rows) (g .root i) ≤ MAX-RANK = λ i h.
-            subst⁻¹ (λ (z : ℕ). z ≤ MAX-RANK) (root-rank both-hold (g .root i) (H .whole .within i h) (H .whole .settled i))
-              (rank-low (H .whole) (count-limit H) (g .root i) (H .whole .within i h) (H .whole .settled i)) in
+          subst⁻¹ (λ (z : ℕ). z ≤ MAX-RANK) (root-rank both-hold (g .root i) (H .whole .within i h) (H .whole .settled i))
+          (rank-low (H .whole) (count-limit H) (g .root i) (H .whole .within i h) (H .whole .settled i)) in
           rw (le-ltb MAX-RANK (high (second .rows) (g .root a)) (low a ha), le-ltb MAX-RANK (high (second .rows) (g .root b)) (low b hb))
 
       -- The rows written by rank are those of the groups united by rank.
       united-holds : (v : Value) → merge (replay now .value (replay now .root a)) (replay now .value (replay now .root b)) ≡ Both v → Real (v .owner)
           → Holds (writes (second .rows) (unite (second .rows) (replay now .root a) (replay now .root b) v)) (united (replay now) (replay now .root a) (replay now .root b) v) room
-            × Inside (replay now .count) (unite (second .rows) (replay now .root a) (replay now .root b) v)
+          × Inside (replay now .count) (unite (second .rows) (replay now .root a) (replay now .root b) v)
       united-holds v m real =
           let g : Groups = replay now in
           let r : ℕ = g .root a in
@@ -268,12 +278,12 @@ module _ {rs : Rows} {room : ℕ} (now : List Deed) (A : Accepted now) (H : Hold
           let onto : ℕ → ℕ → ℕ → List Write = λ low top k. redirect low top ∷ crown top k v ∷ [] in
           let by : ℕ → ℕ → List Write = λ x y. cond (ltb y x) (onto s r x) (cond (ltb x y) (onto r s y) (onto r s (y + 1))) in
           let is : unite (second .rows) r s v ≡ by (g .rank r) (g .rank s) =
-            ap₂ by (root-rank both-hold r hr (H .whole .settled a)) (root-rank both-hold s hs (H .whole .settled b)) in
+          ap₂ by (root-rank both-hold r hr (H .whole .settled a)) (root-rank both-hold s hs (H .whole .settled b)) in
           subst⁻¹ (λ (ws : List Write). Holds (writes (second .rows) ws) (united g r s v) room × Inside (g .count) ws) is
-            (by-rank (λ (ws : List Write) (g′ : Groups). Holds (writes (second .rows) ws) g′ room × Inside (g .count) ws) (g .rank r) (g .rank s)
-              (onto s r) (onto r s) (λ k. hung g s r k v) (λ k. hung g r s k v)
-              (λ k q. let G = hangs-b g (H .whole) a b ha hb d v m k q in (hung-holds both-hold a b s r k v G real (hung-whole (H .whole) a b s r k v G), (hs, (hr, tt))))
-              (λ k q. let G = hangs-a g (H .whole) a b ha hb d v m k q in (hung-holds both-hold a b r s k v G real (hung-whole (H .whole) a b r s k v G), (hr, (hs, tt)))))
+          (by-rank (λ (ws : List Write) (g′ : Groups). Holds (writes (second .rows) ws) g′ room × Inside (g .count) ws) (g .rank r) (g .rank s)
+          (onto s r) (onto r s) (λ k. hung g s r k v) (λ k. hung g r s k v)
+          (λ k q. let G = hangs-b g (H .whole) a b ha hb d v m k q in (hung-holds both-hold a b s r k v G real (hung-whole (H .whole) a b s r k v G), (hs, (hr, tt))))
+          (λ k q. let G = hangs-a g (H .whole) a b ha hb d v m k q in (hung-holds both-hold a b r s k v G real (hung-whole (H .whole) a b r s k v G), (hr, (hs, tt)))))
 
       join-settled : (m : Merged) → merge (valueOf (rowAt (second .rows) (replay now .root a))) (valueOf (rowAt (second .rows) (replay now .root b))) ≡ m
           → Planned rs room now (Join a b) (settle walked (first .steps + second .steps) (unite (second .rows) (replay now .root a) (replay now .root b)) m)
@@ -292,16 +302,16 @@ module _ {rs : Rows} {room : ℕ} (now : List Deed) (A : Accepted now) (H : Hold
           let q : eqb r s ≡ false = ne-eqb r s d in
           let uniting : List Write = unite (second .rows) r s v in
           let count : united g r s v .count ≡ g .count =
-            by-rank (λ (_ : ℕ) (g′ : Groups). g′ .count ≡ g .count) (g .rank r) (g .rank s) (λ k. k) (λ k. k) (λ k. hung g s r k v) (λ k. hung g r s k v) (λ k _. refl) (λ k _. refl) in
+          by-rank (λ (_ : ℕ) (g′ : Groups). g′ .count ≡ g .count) (g .rank r) (g .rank s) (λ k. k) (λ k. k) (λ k. hung g s r k v) (λ k. hung g r s k v) (λ k _. refl) (λ k _. refl) in
           moving (Join a b) (plan (stepped DONE (first .steps + second .steps)) (walked ++ uniting)) (joined a b) refl (ha, hb, inr (v, m)) (rw (q, m) count)
-            (rw (writes-append rs walked uniting, both-rows, q, m) (U .0))
-            (inside-append (g .count) walked uniting both-inside (U .1)) (calm 0 refl refl)
+          (rw (writes-append rs walked uniting, both-rows, q, m) (U .0))
+          (inside-append (g .count) walked uniting both-inside (U .1)) (calm 0 refl refl)
 
     pub join-planned : Planned rs room now (Join a b) (walkBoth rs (replay now .count) a b joinOn)
     join-planned =
         let r : ℕ = replay now .root a in
         let s : ℕ = replay now .root b in
         rw (both-end joinOn)
-          (planned-cond (eqb r s)
-            (λ e. join-same (eqb-true r s e))
-            (λ e. rw (not-high (eqb-false r s e)) (join-settled (eqb-false r s e) (merge (valueOf (rowAt (second .rows) r)) (valueOf (rowAt (second .rows) s))) refl)))
+        (planned-cond (eqb r s)
+        (λ e. join-same (eqb-true r s e))
+        (λ e. rw (not-high (eqb-false r s e)) (join-settled (eqb-false r s e) (merge (valueOf (rowAt (second .rows) r)) (valueOf (rowAt (second .rows) s))) refl)))

@@ -101,7 +101,7 @@ undo-alike room keys count (SetElem key old ∷ es) rs rs′ f w w′ p a =
     let (b, c) = and-eq-true-iff (ltb key count) (undoable keys count es) .0 p in
     let q : key < count = ltb-true key count b in
     undo-alike room keys count es (putRow rs key old) (putRow rs′ key old) f (wide-put rs room key old w) (wide-put rs′ room key old w′) c
-      (alike-put count room rs rs′ key old w w′ (omega arith) a)
+    (alike-put count room rs rs′ key old w w′ (omega arith) a)
 undo-alike room keys count (Unknown ∷ es) rs rs′ f w w′ p a = absurd (true≢false (sym p))
 
 -- ---- which entries they are
@@ -142,7 +142,7 @@ back-log l l′ marks used count rs (x ∷ xs) same b =
     let (token, len, able, made, rest) = b in
     let m : Mark = marks (length xs) in
     rw (newest-same l l′ (m .«log_len») (used - m .«log_len») used (omega arith) same)
-      (token, len, able, made, back-log l l′ marks (m .«log_len») (m .keys) (undo rs (newestFirst l (m .«log_len») (used - m .«log_len»))) xs (λ j h. same j (omega arith)) rest)
+    (token, len, able, made, back-log l l′ marks (m .«log_len») (m .keys) (undo rs (newestFirst l (m .«log_len») (used - m .«log_len»))) xs (λ j h. same j (omega arith)) rest)
 
 -- Under marks that are the same for the snapshots that are open.
 pub back-marks : (l : Log) (marks marks′ : ℕ → Mark) (used count : ℕ) (rs : Rows) (xs : List Saved) → ((k : ℕ) → k < length xs → marks′ k ≡ marks k)
@@ -152,7 +152,7 @@ back-marks l marks marks′ used count rs (x ∷ xs) same b =
     let (token, len, able, made, rest) = b in
     let m : Mark = marks (length xs) in
     rw (same (length xs) (le-refl (suc (length xs))))
-      (token, len, able, made, back-marks l marks marks′ (m .«log_len») (m .keys) (undo rs (newestFirst l (m .«log_len») (used - m .«log_len»))) xs (λ k h. same k (omega arith)) rest)
+    (token, len, able, made, back-marks l marks marks′ (m .«log_len») (m .keys) (undo rs (newestFirst l (m .«log_len») (used - m .«log_len»))) xs (λ k h. same k (omega arith)) rest)
 
 -- From rows that are the same below the count.
 pub back-alike : (room : ℕ) (l : Log) (marks : ℕ → Mark) (used count : ℕ) (rs rs′ : Rows) (xs : List Saved) → count ≤ room → WideRows rs room → WideRows rs′ room → Alike count rs rs′
@@ -162,9 +162,13 @@ back-alike room l marks used count rs rs′ (x ∷ xs) f w w′ a b =
     let (token, len, able, made, rest) = b in
     let m : Mark = marks (length xs) in
     let es : List UndoLog = newestFirst l (m .«log_len») (used - m .«log_len») in
-    let a′ : Alike (m .keys) (undo rs es) (undo rs′ es) = undo-alike room (m .keys) count es rs rs′ f w w′ able a in
-    (token, len, able, made-alike (undo rs′ es) a′ made,
-      back-alike room l marks (m .«log_len») (m .keys) (undo rs es) (undo rs′ es) xs (omega (arith, undoable-le (m .keys) count es able)) (wide-undo rs room es w) (wide-undo rs′ room es w′) a′ rest)
+    let a′ : Alike (m .keys) (undo rs es) (undo rs′ es) = undo-alike room (m .keys) count es rs rs′ f w w′ able a in (
+      token,
+      len,
+      able,
+      made-alike (undo rs′ es) a′ made,
+      back-alike room l marks (m .«log_len») (m .keys) (undo rs es) (undo rs′ es) xs (omega (arith, undoable-le (m .keys) count es able)) (wide-undo rs room es w) (wide-undo rs′ room es w′) a′ rest,
+    )
 
 -- With one entry more, whose undoing gives back what it was before.
 pub back-entry : (l l′ : Log) (marks : ℕ → Mark) (used used′ count count′ : ℕ) (rs rs′ : Rows) (x : Saved) (xs : List Saved) (e : UndoLog) → used′ ≡ used + 1
@@ -192,8 +196,8 @@ back-commit l marks used count rs x y zs b =
     let old : List UndoLog = newestFirst l (m′ .«log_len») (m .«log_len» - m′ .«log_len») in
     let z : m′ .«log_len» + (m .«log_len» - m′ .«log_len») ≡ m .«log_len» = omega arith in
     let q : newestFirst l (m′ .«log_len») (used - m′ .«log_len») ≡ young ++ old =
-      newest-split l (m′ .«log_len») (m .«log_len» - m′ .«log_len») (used - m .«log_len») (used - m′ .«log_len») (omega arith)
-      ∙ ap (λ (n : ℕ). newestFirst l n (used - m .«log_len») ++ old) z in
+    newest-split l (m′ .«log_len») (m .«log_len» - m′ .«log_len») (used - m .«log_len») (used - m′ .«log_len») (omega arith)
+    ∙ ap (λ (n : ℕ). newestFirst l n (used - m .«log_len») ++ old) z in
     rw (q, undo-append rs young old) (token′, omega arith, undoable-append (m′ .keys) (m .keys) count young old able able′, made′, rest′)
 
 -- No open mark is past the used log or the count.
@@ -206,5 +210,5 @@ back-fits l marks used count rs (x ∷ xs) b k h =
     let es : List UndoLog = newestFirst l (m .«log_len») (used - m .«log_len») in
     let below : m .keys ≤ count = undoable-le (m .keys) count es able in
     bySame k (length xs)
-      (λ e. rw e (len, below))
-      (λ d. let (p, q) = back-fits l marks (m .«log_len») (m .keys) (undo rs es) xs rest k (omega arith) in (omega arith, omega arith))
+    (λ e. rw e (len, below))
+    (λ d. let (p, q) = back-fits l marks (m .«log_len») (m .keys) (undo rs es) xs rest k (omega arith) in (omega arith, omega arith))

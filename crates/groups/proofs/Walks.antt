@@ -51,31 +51,31 @@ module _ {rs : Rows} {g : Groups} (S : Shows rs g) where
     passed = [];
     ends = rw (lt-ltb i (g .count) h, eq-eqb (up rs i) i e) (ap (λ (z : ℕ). to z []) (sym (own-root S i h e)));
     under = tt;
-    climbs = omega (arith, ap (high rs) (own-root S i h e))
+    climbs = omega (arith, ap (high rs) (own-root S i h e));
   }
   at-root (suc left) i h e = record {
     passed = [];
     ends = rw (lt-ltb i (g .count) h, eq-eqb (up rs i) i e) (ap (λ (z : ℕ). to z []) (sym (own-root S i h e)));
     under = tt;
-    climbs = omega (arith, ap (high rs) (own-root S i h e))
+    climbs = omega (arith, ap (high rs) (own-root S i h e));
   }
 
   pub reaches-in : (left i : ℕ) → i < g .count → high rs (g .root i) ≤ high rs i + left → Reaches rs g left i
   unfolding path
   reaches-in zero i h b =
       bySame (up rs i) i (λ e. at-root zero i h e)
-        (λ d. absurd (let u = rank-up S (leads-next (S .leads i h)) (S .inside i h) in omega (arith, S .rises i h d)))
+      (λ d. absurd (let u = rank-up S (leads-next (S .leads i h)) (S .inside i h) in omega (arith, S .rises i h d)))
   reaches-in (suc left) i h b =
       bySame (up rs i) i (λ e. at-root (suc left) i h e)
-        (λ d. let n : g .root (up rs i) ≡ g .root i = next-root S i h in
-          let q : high rs (g .root (up rs i)) ≡ high rs (g .root i) = ap (high rs) n in
-          let R = reaches-in left (up rs i) (S .inside i h) (omega (arith, S .rises i h d)) in
-          record {
-            passed = i ∷ R .passed;
-            ends = rw (lt-ltb i (g .count) h, ne-eqb (up rs i) i d) (ap (from i) (R .ends) ∙ ap (λ (z : ℕ). to z (i ∷ R .passed)) n);
-            under = (h, refl, (λ e. d (is-root S i h (sym e))), subst (λ (z : ℕ). Under g z (R .passed)) n (R .under));
-            climbs = omega (arith, S .rises i h d, R .climbs)
-          })
+      (λ d. let n : g .root (up rs i) ≡ g .root i = next-root S i h in
+      let q : high rs (g .root (up rs i)) ≡ high rs (g .root i) = ap (high rs) n in
+      let R = reaches-in left (up rs i) (S .inside i h) (omega (arith, S .rises i h d)) in
+      record {
+        passed = i ∷ R .passed;
+        ends = rw (lt-ltb i (g .count) h, ne-eqb (up rs i) i d) (ap (from i) (R .ends) ∙ ap (λ (z : ℕ). to z (i ∷ R .passed)) n);
+        under = (h, refl, (λ e. d (is-root S i h (sym e))), subst (λ (z : ℕ). Under g z (R .passed)) n (R .under));
+        climbs = omega (arith, S .rises i h d, R .climbs);
+      })
 
 module _ {rs : Rows} {g : Groups} {room : ℕ} (H : Holds rs g room) where
   pub count-limit : g .count ≤ MAX-ROWS
@@ -122,11 +122,11 @@ module _ {g : Groups} {room : ℕ} (r : ℕ) where
       let room-x : x < room = omega (arith, H .fits) in
       record {
         shows = subst (λ (z : ℕ). Shows (write rs (redirect x z)) g) e
-          (compressed (H .shows) (H .whole) (putRow rs x to-root) x h (λ q. d (sym q ∙ e)) (wrote rs room x to-root (H .wide) room-x (real-owner (getD (rs .owners) x 0))));
+            (compressed (H .shows) (H .whole) (putRow rs x to-root) x h (λ q. d (sym q ∙ e)) (wrote rs room x to-root (H .wide) room-x (real-owner (getD (rs .owners) x 0))));
         whole = H .whole;
         wide = wide-put rs room x (edit (redirect x r) (rowAt rs x)) (H .wide);
         fits = H .fits;
-        limit = H .limit
+        limit = H .limit;
       }
 
   pub rewritten : {rs : Rows} → Holds rs g room → (passed : List ℕ) → Under g r passed → Holds (writes rs (rewrites r passed)) g room
@@ -135,7 +135,7 @@ module _ {g : Groups} {room : ℕ} (r : ℕ) where
   rewritten H (x ∷ []) u = H
   rewritten {rs} H (x ∷ y ∷ zs) u =
       rw (writes-append rs (rewrites r (y ∷ zs)) (redirect x r ∷ []))
-        (redirected (rewritten H (y ∷ zs) (u .3)) x (u .0) (u .1) (u .2))
+      (redirected (rewritten H (y ∷ zs) (u .3)) x (u .0) (u .1) (u .2))
 
 pub rewrites-inside : (g : Groups) (r : ℕ) (passed : List ℕ) → Under g r passed → Inside (g .count) (rewrites r passed)
 unfolding rewrites

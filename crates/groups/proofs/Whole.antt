@@ -40,10 +40,10 @@ pub by-rank : {A B : Type 0} (P : A → B → Type 0) (ra rb : ℕ) (x y : ℕ �
     → P (cond (ltb rb ra) (x ra) (cond (ltb ra rb) (y rb) (y (rb + 1)))) (cond (ltb rb ra) (u ra) (cond (ltb ra rb) (w rb) (w (rb + 1))))
 by-rank P ra rb x y u w f g =
     cases (ltb rb ra)
-      (λ e. rw e (f ra (let h = ltb-true rb ra e in record { above = h; stays = le-refl ra; doubles = omega arith })))
-      (λ e. cases (ltb ra rb)
-        (λ e′. rw (e, e′) (g rb (let h = ltb-true ra rb e′ in record { above = h; stays = le-refl rb; doubles = omega arith })))
-        (λ e′. rw (e, e′) (g (rb + 1) (same (omega (arith, ltb-false rb ra e, ltb-false ra rb e′))))))
+    (λ e. rw e (f ra (let h = ltb-true rb ra e in record { above = h; stays = le-refl ra; doubles = omega arith })))
+    (λ e. cases (ltb ra rb)
+    (λ e′. rw (e, e′) (g rb (let h = ltb-true ra rb e′ in record { above = h; stays = le-refl rb; doubles = omega arith })))
+    (λ e′. rw (e, e′) (g (rb + 1) (same (omega (arith, ltb-false rb ra e, ltb-false ra rb e′))))))
   where
     same : ra ≡ rb → Ranked ra rb (rb + 1)
     same q = rw (q, add-one rb) (record { above = omega arith; stays = omega arith; doubles = omega arith })
@@ -66,12 +66,26 @@ module _ (g : Groups) (W : Whole g) (a b : ℕ) (ha : a < g .count) (hb : b < g 
     (m : merge (g .value (g .root a)) (g .value (g .root b)) ≡ Both v) (k : ℕ) where
   pub hangs-a : Ranked (g .rank (g .root a)) (g .rank (g .root b)) k → Hangs g a b (g .root a) (g .root b) k v
   hangs-a q = record {
-    low-live = W .within a ha; high-live = W .within b hb; low-root = W .settled a; high-root = W .settled b; apart = d; ranked = q; merged = m; which = inl (refl, refl)
+    low-live = W .within a ha;
+    high-live = W .within b hb;
+    low-root = W .settled a;
+    high-root = W .settled b;
+    apart = d;
+    ranked = q;
+    merged = m;
+    which = inl (refl, refl);
   }
 
   pub hangs-b : Ranked (g .rank (g .root b)) (g .rank (g .root a)) k → Hangs g a b (g .root b) (g .root a) k v
   hangs-b q = record {
-    low-live = W .within b hb; high-live = W .within a ha; low-root = W .settled b; high-root = W .settled a; apart = λ z. d (sym z); ranked = q; merged = m; which = inr (refl, refl)
+    low-live = W .within b hb;
+    high-live = W .within a ha;
+    low-root = W .settled b;
+    high-root = W .settled a;
+    apart = λ z. d (sym z);
+    ranked = q;
+    merged = m;
+    which = inr (refl, refl);
   }
 
 -- The roots were the same and nothing moves, or one group is hung under the other.
@@ -83,11 +97,11 @@ join-cases P g W a b acc f h =
     let r : ℕ = g .root a in
     let s : ℕ = g .root b in
     bySame r s
-      (λ e. rw (eq-eqb r s e) (f e))
-      (λ d. either t (λ e. absurd (d e)) (λ m. rw (ne-eqb r s d, m .1)
-        (by-rank (λ (_ : ℕ) (g′ : Groups). P g′) (g .rank r) (g .rank s) (λ k. k) (λ k. k) (λ k. hung g s r k (m .0)) (λ k. hung g r s k (m .0))
-          (λ k q. h s r k (m .0) (hangs-b g W a b ha hb d (m .0) (m .1) k q))
-          (λ k q. h r s k (m .0) (hangs-a g W a b ha hb d (m .0) (m .1) k q)))))
+    (λ e. rw (eq-eqb r s e) (f e))
+    (λ d. either t (λ e. absurd (d e)) (λ m. rw (ne-eqb r s d, m .1)
+    (by-rank (λ (_ : ℕ) (g′ : Groups). P g′) (g .rank r) (g .rank s) (λ k. k) (λ k. k) (λ k. hung g s r k (m .0)) (λ k. hung g r s k (m .0))
+    (λ k q. h s r k (m .0) (hangs-b g W a b ha hb d (m .0) (m .1) k q))
+    (λ k q. h r s k (m .0) (hangs-a g W a b ha hb d (m .0) (m .1) k q)))))
 
 -- ---- each step
 
@@ -102,19 +116,19 @@ module _ {g : Groups} (W : Whole g) where
       let top : shift root low high high ≡ high = shift-miss root low high high (λ z. d (sym z ∙ eh)) ∙ eh in
       let not-low : (q : ℕ) → shift root low high q ≡ q → q ≢ low = λ q e m. d (sym m ∙ sym e ∙ shift-hit root low high q (ap root m ∙ el)) in
       let old : (q : ℕ) → shift root low high q ≡ q → q ≢ high → root q ≡ q = λ q e n.
-        bySame (root q) low (λ z. absurd (n (sym e ∙ shift-hit root low high q z))) (λ z. sym (shift-miss root low high q z) ∙ e) in
+      bySame (root q) low (λ z. absurd (n (sym e ∙ shift-hit root low high q z))) (λ z. sym (shift-miss root low high q z) ∙ e) in
       record {
         outside = λ i h. shift-miss root low high i (λ e. omega (arith, W .outside i h, H .low-live)) ∙ W .outside i h;
         within = λ i h. bySame (root i) low
-          (λ e. rw (shift-hit root low high i e) (H .high-live))
-          (λ e. rw (shift-miss root low high i e) (W .within i h));
+            (λ e. rw (shift-hit root low high i e) (H .high-live))
+            (λ e. rw (shift-miss root low high i e) (W .within i h));
         settled = λ i. bySame (root i) low
-          (λ e. ap (shift root low high) (shift-hit root low high i e) ∙ top ∙ sym (shift-hit root low high i e))
-          (λ e. ap (shift root low high) (shift-miss root low high i e) ∙ stays i e ∙ sym (shift-miss root low high i e));
+            (λ e. ap (shift root low high) (shift-hit root low high i e) ∙ top ∙ sym (shift-hit root low high i e))
+            (λ e. ap (shift root low high) (shift-miss root low high i e) ∙ stays i e ∙ sym (shift-miss root low high i e));
         big = λ q h e. bySame q high
-          (λ m. subst⁻¹ (λ (z : ℕ). 2 ^ at high k (g .rank) z ≤ size (shift root low high) (g .count) z) m
+            (λ m. subst⁻¹ (λ (z : ℕ). 2 ^ at high k (g .rank) z ≤ size (shift root low high) (g .count) z) m
             (rw (at-hit high k (g .rank) high refl) (omega (arith, H .ranked .doubles, total-shift root low high d (ones (g .count)), W .big low (H .low-live) el, W .big high (H .high-live) eh))))
-          (λ n. rw (at-miss high k (g .rank) q n) (le-trans (W .big q h (old q e n)) (le-of-eq (sym (total-shift-other root low high q (not-low q e) n (ones (g .count)))))))
+            (λ n. rw (at-miss high k (g .rank) q n) (le-trans (W .big q h (old q e n)) (le-of-eq (sym (total-shift-other root low high q (not-low q e) n (ones (g .count)))))));
       }
 
   pub step-whole : (d : Deed) → Accepts g d → Whole (step g d)
@@ -127,8 +141,8 @@ module _ {g : Groups} (W : Whole g) where
         within = λ i h. upTo n i h (λ m. rw (m, own) (le-refl (suc n))) (λ q. omega (arith, W .within i q));
         settled = W .settled;
         big = λ r h m. upTo n r h
-          (λ q. rw (at-hit key 0 (g .rank) r (q ∙ sym e)) (omega (arith, due-hit (g .root) r n 1 (own ∙ sym q))))
-          (λ q. rw (at-miss key 0 (g .rank) r (λ z. omega arith)) (omega (arith, W .big r q m)))
+            (λ q. rw (at-hit key 0 (g .rank) r (q ∙ sym e)) (omega (arith, due-hit (g .root) r n 1 (own ∙ sym q))))
+            (λ q. rw (at-miss key 0 (g .rank) r (λ z. omega arith)) (omega (arith, W .big r q m)));
       }
   step-whole (joined a b) acc = join-cases Whole g W a b acc (λ _. W) (hung-whole a b)
   step-whole (posted key v) acc = rw (acc .1 .1) (record { outside = W .outside; within = W .within; settled = W .settled; big = W .big })
