@@ -31,7 +31,7 @@ use Rattle.rules.specs.Tokens.{marked, innermost, notInnermost, seek, unfit, sn
 use Rattle.rules.specs.Refusal.{Outcome, outcome, refused, refuse, carry, sizesOf, bad}
 use Rattle.rules.specs.Step.{notLive, grown, new, live, one, two, resting, rollback, call, step}
 use Rattle.groups.specs.Groups.{Groups, Deed, created, step as groupStep, replay, Accepts}
-use Rattle.groups.specs.Track.{Event, event, History, Act, idle, moves, takes, undoes, closes, act, deedOf, Saved, Track, noted, track, newer, lastToken, Innermost, Follows, Orderly}
+use Rattle.groups.specs.Track.{Calm, Event, event, History, Act, idle, moves, takes, undoes, closes, act, deedOf, Saved, Track, noted, track, newer, lastToken, Innermost, Follows, Orderly}
 use Rattle.groups.specs.Stands.{WideRows, WideLog, Made, Leads-back, Lends, Stands, Shows}
 use Rattle.groups.proofs.Tools.{cases, bySame}
 use Rattle.groups.proofs.RowLaws.{Real, real-owner, wide-put, alike-past}
@@ -40,7 +40,7 @@ use Rattle.groups.proofs.Forest.{created-shows, shows-none}
 use Rattle.groups.proofs.Walks.{Holds, wrote}
 use Rattle.groups.proofs.Undoing.{undoable-le, wide-undo, back-marks, back-alike, back-commit, back-fits}
 use Rattle.groups.proofs.Logging.{Logged, log-one, log-puts, puts-rows}
-use Rattle.groups.proofs.Plans.{Calm, calm, Quiet, after, Planned, find-planned, probe-planned, probe-key-planned, try-planned, post-planned, unioned-planned, join-planned}
+use Rattle.groups.proofs.Plans.{calm, Quiet, after, Planned, find-planned, probe-planned, probe-key-planned, try-planned, post-planned, unioned-planned, join-planned}
 
 pub record Keeps (h : History) (c : Call) (o : Outcome) : Type 0 where
   pub stands : Stands (o .table) (event c (o .answer) ∷ h)

@@ -25,7 +25,7 @@ use Rattle.rules.specs.Write.{Write, redirect, crown, place, edit, write, write
 use Rattle.rules.specs.Answer.{answer, refusal, stepped, found, probed, said}
 use Rattle.rules.specs.Plan.{Plan, plan, Walked, walkedOn, goOn, walk, walkBoth, settle, unite, tooHigh, findOn, unionedOn, joinOn, postOn, probeOn, probeKeyOn, tryProbe}
 use Rattle.groups.specs.Groups.{Groups, Deed, joined, posted, at, hung, united, ifBoth, step, replay, Accepts, Accepted}
-use Rattle.groups.specs.Track.{Event, event, Act, idle, moves, takes, undoes, closes, act, deedOf}
+use Rattle.groups.specs.Track.{Calm, Event, event, Act, idle, moves, takes, undoes, closes, act, deedOf}
 use Rattle.groups.specs.Stands.{up, high, Shows, WideRows}
 use Rattle.groups.proofs.Tools.{cases, bySame, either}
 use Rattle.groups.proofs.RowLaws.{Real, real-owner, row-hit, row-miss, wide-put}
@@ -35,9 +35,6 @@ use Rattle.groups.proofs.Forest.{is-root, hung-shows, posted-shows}
 use Rattle.groups.proofs.Walks.{Holds, Reaches, reaches, count-limit, Inside, inside-append, writes-append, wrote, rewritten, rewrites-inside}
 
 -- ---- what a plan keeps
-
-abbrev pub Calm : ℕ → Type 0
-Calm n = (n ≢ BROKEN-TABLE) × (n ≢ BAD-STATE)
 
 pub calm : (n : ℕ) → eqb n BROKEN-TABLE ≡ false → eqb n BAD-STATE ≡ false → Calm n
 calm n e f = (eqb-false n BROKEN-TABLE e, eqb-false n BAD-STATE f)

@@ -1,6 +1,7 @@
 -- A history, and what of it survives, kept as a stack: what has survived now, and what had survived as each open snapshot was taken.
 -- Crate `history` has survival in document 01's own words, and the proof that the two are equal.
 use mathlib.Core.Path.{_≡_}
+use mathlib.Core.Logic.{_≢_}
 use mathlib.Core.Bool.{Bool, cond}
 use mathlib.Core.List.{List, [], _∷_, _++_}
 use Prim.Native.Nat.{ℕ, _<_}
@@ -8,7 +9,7 @@ use lib.Dec.{eqb}
 use Rattle.rules.specs.declared.call.Call.{Call}
 use Rattle.rules.specs.declared.call.Call.the-variants.{New, Len, Find, Unioned, Join, Post, Probe, ProbeKey, TryProbe, Snapshot, Rollback, Commit, Keys, Actions, Changes}
 use Rattle.rules.specs.declared.call.Answer.{Answer}
-use Rattle.rules.specs.Numbers.{DONE}
+use Rattle.rules.specs.Numbers.{DONE, BROKEN-TABLE, BAD-STATE}
 use Rattle.rules.specs.Lent.{value, ownerOf}
 use Rattle.groups.specs.Groups.{Deed, created, joined, posted}
 
@@ -26,6 +27,10 @@ History = List Event
 
 abbrev pub isDone : Event → Bool
 isDone e = eqb (e .answer .no) DONE
+
+-- Neither BROKEN_TABLE nor BAD_STATE.
+abbrev pub Calm : ℕ → Type 0
+Calm n = (n ≢ BROKEN-TABLE) × (n ≢ BAD-STATE)
 
 -- What a call answered DONE is to the others: it moves the groups, or it takes a snapshot of this token, rolls it back, commits it.
 pub data Act : Type 0 where
