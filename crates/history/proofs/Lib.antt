@@ -1,0 +1,2 @@
+-- Why demand 3 holds.
+pub mod SurvivalLaws
