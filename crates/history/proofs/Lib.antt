@@ -1,2 +1,4 @@
 -- Why demand 3 holds.
 pub mod SurvivalLaws
+pub mod LinkLaws
+pub mod AccountLaws
