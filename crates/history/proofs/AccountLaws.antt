@@ -28,8 +28,8 @@ pub naming : (n : ℕ) (o : Owner) → (o ≡ Tenant n) ↔ (0 < namedBy n o)
 naming n Nobody = (λ e. let z : _≡_ {A = ℕ} 0 1 = cc in omega arith, λ h. absurd (not-suc-le-zero h))
 naming n (Tenant m) =
     bySame m n
-      (λ e. rw (eq-eqb m n e) (λ _. le-refl 1, λ _. ap Tenant e))
-      (λ d. rw (ne-eqb m n d) (λ e. absurd (d (cc)), λ h. absurd (not-suc-le-zero h)))
+    (λ e. rw (eq-eqb m n e) (λ _. le-refl 1, λ _. ap Tenant e))
+    (λ d. rw (ne-eqb m n d) (λ e. absurd (d (cc)), λ h. absurd (not-suc-le-zero h)))
 
 -- ---- what a group's value is to the deeds on its keys
 
@@ -51,9 +51,9 @@ values-both {v} {w} {p} {q} {f} {g} P Q x e =
       owned = λ n. (
         λ z. either (S .names n .0 z) (λ y. omega (arith, P .owned n .0 y)) (λ y. omega (arith, Q .owned n .0 y)),
         λ z. S .names n .1 (cases (eqb (f n) 0)
-          (λ y. inr (Q .owned n .1 (omega (arith, eqb-true (f n) 0 y))))
-          (λ y. inl (P .owned n .1 (omega (arith, eqb-false (f n) 0 y)))))
-      )
+            (λ y. inr (Q .owned n .1 (omega (arith, eqb-true (f n) 0 y))))
+            (λ y. inl (P .owned n .1 (omega (arith, eqb-false (f n) 0 y))))),
+      );
     }
 
 values-as : {v : Value} {p : ℕ} {f : ℕ → ℕ} → Values v p f → (v′ : Value) (p′ : ℕ) (f′ : ℕ → ℕ) → v′ ≡ v → p′ ≡ p → ((n : ℕ) → f′ n ≡ f n) → Values v′ p′ f′
@@ -78,23 +78,23 @@ module _ {g : Groups} {ds : List Deed} (W : Whole g) (A : Account g ds) where
       let own : g .root key ≡ key = W .outside key (omega arith) in
       let live : key < suc n = omega arith in
       let alone : (weigh : Value → ℕ) → total (g .root) key (credits weigh ds) ≡ 0 = λ weigh.
-        total-none (g .root) key n (λ i h q. omega (arith, W .within i h)) (credits weigh ds) (A .below weigh) in
+      total-none (g .root) key n (λ i h q. omega (arith, W .within i h)) (credits weigh ds) (A .below weigh) in
       record {
         links = A .links;
         values = λ r h m. upTo n r h
-          (λ q. let z : r ≡ key = q ∙ sym e in
+            (λ q. let z : r ≡ key = q ∙ sym e in
             values-as (values-one v) (at key v (g .value) r) (due (g .root) r key (v .amount) + total (g .root) r (byteSeconds ds)) (λ k. due (g .root) r key (namedBy k (v .owner)) + total (g .root) r (namings k ds))
-              (at-hit key v (g .value) r z)
-              (rw z (omega (arith, due-hit (g .root) key key (v .amount) own, alone (λ v. v .amount))))
-              (λ k. rw z (omega (arith, due-hit (g .root) key key (namedBy k (v .owner)) own, alone (λ v. namedBy k (v .owner))))))
-          (λ q. let d : r ≢ key = λ z. omega arith in
+            (at-hit key v (g .value) r z)
+            (rw z (omega (arith, due-hit (g .root) key key (v .amount) own, alone (λ v. v .amount))))
+            (λ k. rw z (omega (arith, due-hit (g .root) key key (namedBy k (v .owner)) own, alone (λ v. namedBy k (v .owner))))))
+            (λ q. let d : r ≢ key = λ z. omega arith in
             let d′ : g .root key ≢ r = λ z. d (sym z ∙ own) in
             values-as (A .values r q m) (at key v (g .value) r) (due (g .root) r key (v .amount) + total (g .root) r (byteSeconds ds)) (λ k. due (g .root) r key (namedBy k (v .owner)) + total (g .root) r (namings k ds))
-              (at-miss key v (g .value) r d)
-              (omega (arith, due-miss (g .root) r key (v .amount) d′))
-              (λ k. omega (arith, due-miss (g .root) r key (namedBy k (v .owner)) d′)));
+            (at-miss key v (g .value) r d)
+            (omega (arith, due-miss (g .root) r key (v .amount) d′))
+            (λ k. omega (arith, due-miss (g .root) r key (namedBy k (v .owner)) d′)));
         keys = ap₂ (λ (x : ℕ) (xs : List ℕ). x ∷ xs) e (A .keys);
-        below = λ weigh. more live (below-suc (A .below weigh))
+        below = λ weigh. more live (below-suc (A .below weigh));
       }
 
   -- ---- a post
@@ -107,18 +107,18 @@ module _ {g : Groups} {ds : List Deed} (W : Whole g) (A : Account g ds) where
       rw e (record {
         links = A .links;
         values = λ r hr m. bySame r r₀
-          (λ z. values-as (values-both (A .values r₀ (W .within key h) (W .settled key)) (values-one v) x e) (at r₀ x (g .value) r)
+            (λ z. values-as (values-both (A .values r₀ (W .within key h) (W .settled key)) (values-one v) x e) (at r₀ x (g .value) r)
             (due (g .root) r key (v .amount) + total (g .root) r (byteSeconds ds)) (λ k. due (g .root) r key (namedBy k (v .owner)) + total (g .root) r (namings k ds))
             (at-hit r₀ x (g .value) r z)
             (rw z (omega (arith, due-hit (g .root) r₀ key (v .amount) refl)))
             (λ k. rw z (omega (arith, due-hit (g .root) r₀ key (namedBy k (v .owner)) refl))))
-          (λ d. values-as (A .values r hr m) (at r₀ x (g .value) r)
+            (λ d. values-as (A .values r hr m) (at r₀ x (g .value) r)
             (due (g .root) r key (v .amount) + total (g .root) r (byteSeconds ds)) (λ k. due (g .root) r key (namedBy k (v .owner)) + total (g .root) r (namings k ds))
             (at-miss r₀ x (g .value) r d)
             (omega (arith, due-miss (g .root) r key (v .amount) (λ z. d (sym z))))
             (λ k. omega (arith, due-miss (g .root) r key (namedBy k (v .owner)) (λ z. d (sym z)))));
         keys = A .keys;
-        below = λ weigh. more h (A .below weigh)
+        below = λ weigh. more h (A .below weigh);
       })
 
   -- ---- a join
@@ -130,10 +130,10 @@ module _ {g : Groups} {ds : List Deed} (W : Whole g) (A : Account g ds) where
         let L = A .values low (H .low-live) (H .low-root) in
         let T = A .values high (H .high-live) (H .high-root) in
         either (H .which)
-          (λ q. values-both L T v (ap₂ (λ (x y : ℕ). merge (g .value x) (g .value y)) (q .0) (q .1) ∙ H .merged))
-          (λ q. values-as (values-both T L v (ap₂ (λ (x y : ℕ). merge (g .value x) (g .value y)) (q .1) (q .0) ∙ H .merged)) v
-            (total (g .root) low (byteSeconds ds) + total (g .root) high (byteSeconds ds)) (λ n. total (g .root) low (namings n ds) + total (g .root) high (namings n ds))
-            refl (omega arith) (λ n. omega arith))
+        (λ q. values-both L T v (ap₂ (λ (x y : ℕ). merge (g .value x) (g .value y)) (q .0) (q .1) ∙ H .merged))
+        (λ q. values-as (values-both T L v (ap₂ (λ (x y : ℕ). merge (g .value x) (g .value y)) (q .1) (q .0) ∙ H .merged)) v
+        (total (g .root) low (byteSeconds ds) + total (g .root) high (byteSeconds ds)) (λ n. total (g .root) low (namings n ds) + total (g .root) high (namings n ds))
+        refl (omega arith) (λ n. omega arith))
 
     hung-account : Account (hung g low high k v) (joined a b ∷ ds)
     hung-account =
@@ -141,29 +141,30 @@ module _ {g : Groups} {ds : List Deed} (W : Whole g) (A : Account g ds) where
         record {
           links = links-hung (A .links) a b low high (H .which);
           values = λ r h m. bySame r high
-            (λ z. values-as hung-values (at high v (g .value) r) (total root r (byteSeconds ds)) (λ n. total root r (namings n ds))
+              (λ z. values-as hung-values (at high v (g .value) r) (total root r (byteSeconds ds)) (λ n. total root r (namings n ds))
               (at-hit high v (g .value) r z)
               (rw z (total-shift (g .root) low high (H .apart) (byteSeconds ds)))
               (λ n. rw z (total-shift (g .root) low high (H .apart) (namings n ds))))
-            (λ d. let q : r ≢ low = not-low r m in
+              (λ d. let q : r ≢ low = not-low r m in
               values-as (A .values r h (old-root r m d)) (at high v (g .value) r) (total root r (byteSeconds ds)) (λ n. total root r (namings n ds))
               (at-miss high v (g .value) r d)
               (total-shift-other (g .root) low high r q d (byteSeconds ds))
               (λ n. total-shift-other (g .root) low high r q d (namings n ds)));
           keys = A .keys;
-          below = A .below
+          below = A .below;
         }
       where
         not-low : (r : ℕ) → shift (g .root) low high r ≡ r → r ≢ low
         not-low r m z = H .apart (sym z ∙ sym m ∙ shift-hit (g .root) low high r (ap (g .root) z ∙ H .low-root))
+
         old-root : (r : ℕ) → shift (g .root) low high r ≡ r → r ≢ high → g .root r ≡ r
         old-root r m d = bySame (g .root r) low (λ z. absurd (d (sym m ∙ shift-hit (g .root) low high r z))) (λ z. sym (shift-miss (g .root) low high r z) ∙ m)
 
   joined-account : (a b : ℕ) → Accepts g (joined a b) → Account (step g (joined a b)) (joined a b ∷ ds)
   joined-account a b acc =
       join-cases (λ g′. Account g′ (joined a b ∷ ds)) g W a b acc
-        (λ e. record { links = links-same (A .links) a b e; values = A .values; keys = A .keys; below = A .below })
-        (hung-account a b)
+      (λ e. record { links = links-same (A .links) a b e; values = A .values; keys = A .keys; below = A .below })
+      (hung-account a b)
 
   step-account : (d : Deed) → Accepts g d → Account (step g d) (d ∷ ds)
   step-account (created key v) acc = created-account key v acc

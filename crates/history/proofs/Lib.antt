@@ -2,3 +2,4 @@
 pub mod SurvivalLaws
 pub mod LinkLaws
 pub mod AccountLaws
+pub mod Theorem

@@ -38,8 +38,8 @@ module _ {js : Pairs} {root : ℕ → ℕ} (k : Links js root) (a b : ℕ) where
   agreeing : (f : ℕ → ℕ) → f a ≡ f b → ((x y : ℕ) → root x ≡ root y → f x ≡ f y) → (x y : ℕ) → List·Memᴰ (x, y) ((a, b) ∷ js) → f x ≡ f y
   agreeing f e g x y m =
       either (List·Memᴰ·cases-cons m)
-        (λ q. ap (λ (z : ℕ × ℕ). f (z .0)) q ∙ e ∙ sym (ap (λ (z : ℕ × ℕ). f (z .1)) q))
-        (λ q. g x y (k .agree x y q))
+      (λ q. ap (λ (z : ℕ × ℕ). f (z .0)) q ∙ e ∙ sym (ap (λ (z : ℕ × ℕ). f (z .1)) q))
+      (λ q. g x y (k .agree x y q))
 
   -- A join of two keys that have one root already.
   pub links-same : root a ≡ root b → Links ((a, b) ∷ js) root
@@ -53,18 +53,19 @@ module _ {js : Pairs} {root : ℕ → ℕ} (k : Links js root) (a b : ℕ) where
   pub links-hung : (low high : ℕ) → ((low ≡ root a) × (high ≡ root b)) ⊎ ((low ≡ root b) × (high ≡ root a)) → Links ((a, b) ∷ js) (shift root low high)
   links-hung low high w = record {
     reach = λ x. bySame (root x) low
-      (λ e. subst⁻¹ (λ (z : ℕ). Linked ((a, b) ∷ js) x z) (shift-hit root low high x e)
+        (λ e. subst⁻¹ (λ (z : ℕ). Linked ((a, b) ∷ js) x z) (shift-hit root low high x e)
         (chain (subst (λ (z : ℕ). Linked ((a, b) ∷ js) x z) e (weaken (a, b) (k .reach x))) linked))
-      (λ d. subst⁻¹ (λ (z : ℕ). Linked ((a, b) ∷ js) x z) (shift-miss root low high x d) (weaken (a, b) (k .reach x)));
+        (λ d. subst⁻¹ (λ (z : ℕ). Linked ((a, b) ∷ js) x z) (shift-miss root low high x d) (weaken (a, b) (k .reach x)));
     agree = agreeing (shift root low high) (either w
-      (λ q. shift-hit root low high a (sym (q .0)) ∙ sym (goes b (sym (q .1))))
-      (λ q. goes a (sym (q .1)) ∙ sym (shift-hit root low high b (sym (q .0))))) (λ x y q. ap (λ (z : ℕ). cond (eqb z low) high z) q)
+        (λ q. shift-hit root low high a (sym (q .0)) ∙ sym (goes b (sym (q .1))))
+        (λ q. goes a (sym (q .1)) ∙ sym (shift-hit root low high b (sym (q .0))))) (λ x y q. ap (λ (z : ℕ). cond (eqb z low) high z) q);
   }
     where
       linked : Linked ((a, b) ∷ js) low high
       linked = either w
-        (λ q. subst⁻¹ (λ (z : ℕ). Linked ((a, b) ∷ js) z high) (q .0) (subst⁻¹ (λ (z : ℕ). Linked ((a, b) ∷ js) (root a) z) (q .1) roots-linked))
-        (λ q. subst⁻¹ (λ (z : ℕ). Linked ((a, b) ∷ js) z high) (q .0) (subst⁻¹ (λ (z : ℕ). Linked ((a, b) ∷ js) (root b) z) (q .1) (flip roots-linked)))
+          (λ q. subst⁻¹ (λ (z : ℕ). Linked ((a, b) ∷ js) z high) (q .0) (subst⁻¹ (λ (z : ℕ). Linked ((a, b) ∷ js) (root a) z) (q .1) roots-linked))
+          (λ q. subst⁻¹ (λ (z : ℕ). Linked ((a, b) ∷ js) z high) (q .0) (subst⁻¹ (λ (z : ℕ). Linked ((a, b) ∷ js) (root b) z) (q .1) (flip roots-linked)))
+
       -- A key whose root is `high` has it still.
       goes : (x : ℕ) → root x ≡ high → shift root low high x ≡ high
       goes x e = bySame (root x) low (λ q. shift-hit root low high x q) (λ d. shift-miss root low high x d ∙ e)

@@ -75,8 +75,8 @@ chosen-miss : (later : ℕ → Bool) (now : List Deed) (xs : List Saved) → any
 chosen-miss later now [] e = refl
 chosen-miss later now (x ∷ xs) e =
     cases (later (x .token))
-      (λ q. absurd (true≢false (rw q at e)))
-      (λ q. rw q (chosen-miss later now xs (rw q at e)))
+    (λ q. absurd (true≢false (rw q at e)))
+    (λ q. rw q (chosen-miss later now xs (rw q at e)))
 
 chosen-hit : (later : ℕ → Bool) (now now′ : List Deed) (xs : List Saved) → anyOf later (tokens xs) ≡ true → chosen later now xs ≡ chosen later now′ xs
 chosen-hit later now now′ [] e = absurd (true≢false (sym e))
@@ -88,7 +88,7 @@ chosen-skip : (token : ℕ) (later : ℕ → Bool) (now : List Deed) (b : ℕ) (
 chosen-skip token later now b [] h f = refl
 chosen-skip token later now b (x ∷ xs) h f =
     rw (ne-eqb (x .token) token (λ e. omega (arith, f .0)))
-      (chosen-skip token later (cond (later (x .token)) (x .deeds) now) (x .token) xs (omega (arith, f .0)) (f .1))
+    (chosen-skip token later (cond (later (x .token)) (x .deeds) now) (x .token) xs (omega (arith, f .0)) (f .1))
 
 -- ---- the tokens undone later are open now, or not taken yet
 
@@ -116,11 +116,11 @@ due-on : (a : Act) (later : ℕ → Bool) (t : ℕ) (g : Track) → Follows t (g
 due-on idle later t g p d = d
 due-on (moves d′) later t g p d = d
 due-on (takes token) later t g p d = λ u q. either (d u q)
-  (λ m. one-of (eqb u token) (anyOf (eqb u) (tokens (g .saved))) m (λ z. inr (omega (arith, eqb-true u token z))) (λ z. inl z))
-  (λ m. inr (omega arith))
+    (λ m. one-of (eqb u token) (anyOf (eqb u) (tokens (g .saved))) m (λ z. inr (omega (arith, eqb-true u token z))) (λ z. inl z))
+    (λ m. inr (omega arith))
 due-on (undoes token) later t g p d = λ u q. one-of (eqb u token) (later u) q
-  (λ z. inl (first (g .saved) p (eqb-true u token z)))
-  (λ z. due-dropped later t (g .saved) d u z)
+    (λ z. inl (first (g .saved) p (eqb-true u token z)))
+    (λ z. due-dropped later t (g .saved) d u z)
   where
     first : {u : ℕ} (xs : List Saved) → Innermost token xs → u ≡ token → anyOf (eqb u) (tokens xs) ≡ true
     first [] i e = absurd i
@@ -140,8 +140,8 @@ agree-on : (a : Act) (later : ℕ → Bool) (t : ℕ) (g : Track) → Follows t 
 agree-on idle later t g p f d old e = either-way (anyOf later (tokens (g .saved))) old ∙ e
 agree-on (moves x) later t g p f d old e =
     cases (anyOf later (tokens (g .saved)))
-      (λ q. rw q (e ∙ chosen-hit later (g .now) (x ∷ g .now) (g .saved) q))
-      (λ q. rw (q, chosen-miss later (x ∷ g .now) (g .saved) q) (ap (λ (z : List Deed). x ∷ z) (e ∙ chosen-miss later (g .now) (g .saved) q)))
+    (λ q. rw q (e ∙ chosen-hit later (g .now) (x ∷ g .now) (g .saved) q))
+    (λ q. rw (q, chosen-miss later (x ∷ g .now) (g .saved) q) (ap (λ (z : List Deed). x ∷ z) (e ∙ chosen-miss later (g .now) (g .saved) q)))
 agree-on (takes token) later t g p f d old e =
     either-way (anyOf later (tokens (g .saved))) old ∙ e ∙ ap (λ (z : List Deed). chosen later z (g .saved)) (sym (either-way (later token) (g .now)))
 agree-on (undoes token) later t g p f d old e =
@@ -156,10 +156,10 @@ agree-on (closes token) later t g p f d old e =
     closed : (xs : List Saved) → Innermost token xs → Falls (suc t) xs → Due later t (dropped xs) → chosen later (g .now) xs ≡ chosen later (g .now) (dropped xs)
     closed [] i f d = absurd i
     closed (x ∷ xs) i f d = cases (later (x .token))
-      (λ q. absurd (either (d (x .token) q)
+        (λ q. absurd (either (d (x .token) q)
         (λ m. true≢false (sym m ∙ not-open (x .token) (x .token) xs (omega arith) (f .1)))
         (λ m. omega (arith, f .0))))
-      (λ q. rw q)
+        (λ q. rw q)
 
 -- ---- and of a whole history
 
@@ -178,7 +178,7 @@ survive-later (e ∷ h) o later d =
     deeds-on (rolledBack h later) (isDone e) e (survivors (e ∷ later) h) refl
     ∙ ap (λ (ts : List ℕ). cond (anyOf (undoneIn later) ts) (deeds (survivors (e ∷ later) h)) (deedOf (act e) ++ deeds (survivors (e ∷ later) h))) (open-tokens h (o .1))
     ∙ agree-on (act e) (undoneIn later) (lastToken h) (track h) (o .0) (falls h (o .1)) d (deeds (survivors (e ∷ later) h))
-      (survive-later h (o .1) (e ∷ later) (due-on (act e) (undoneIn later) (lastToken h) (track h) (o .0) d))
+    (survive-later h (o .1) (e ∷ later) (due-on (act e) (undoneIn later) (lastToken h) (track h) (o .0) d))
 
 none-undone : (xs : List Saved) → anyOf (undoneIn []) (tokens xs) ≡ false
 unfolding undoneIn
