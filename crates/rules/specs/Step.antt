@@ -2,31 +2,29 @@
 use mathlib.Core.Bool.{Bool, not, _||_}
 use Prim.Native.Nat.{ℕ, _+_}
 use lib.ListN.{length}
-use lib.Dec.{eqb, ltb, leb}
+use lib.Dec.{eqb, leb}
 use Rattle.rules.specs.declared.call.Call.{Call}
 use Rattle.rules.specs.declared.call.Call.the-variants.{New, Len, Find, Unioned, Join, Post, Probe, ProbeKey, TryProbe, Snapshot, Rollback, Commit, Keys, Actions, Changes}
 use Rattle.rules.specs.declared.call.Answered.{Answered}
 use Rattle.rules.specs.declared.table.Value.{Value}
-use Rattle.rules.specs.declared.table.UndoLog.the-variants.{NewElem}
 use Rattle.rules.specs.Numbers.{DONE, NO-KEY, KEYS-FULL, LOG-FULL, NOT-INNERMOST, BROKEN-TABLE, BAD-STATE}
-use Rattle.rules.specs.Lent.{Table, table, ownerOf, value, row, putRow, counting}
-use Rattle.rules.specs.Answer.{refusal, found, said, range, answered}
-use Rattle.rules.specs.Write.{memoryOf, logged, full}
+use Rattle.rules.specs.Lent.{Table, table, ownerOf, value, row, counting}
+use Rattle.rules.specs.Answer.{refusal, found}
+use Rattle.rules.specs.Write.{memoryOf, push, full}
 use Rattle.rules.specs.Plan.{Plan, Walked, walk, walkBoth, findOn, unionedOn, joinOn, postOn, probeOn, probeKeyOn, tryProbe}
-use Rattle.rules.specs.Tokens.{snapshot, commit, ask, innermost, notInnermost, unfit, since, undoable, undo, rolledBack}
+use Rattle.rules.specs.Tokens.{len, snapshot, commit, keysSince, actionsSince, hasChanges, innermost, notInnermost, unfit, since, undoable, undo, rolledBack}
 use Rattle.rules.specs.Refusal.{Outcome, outcome, refuse, carry, sizesOf, bad}
 
 -- NO_KEY: "a named key is not below the count"
 abbrev pub notLive : Table → ℕ → Bool
 notLive t key = leb (t .state .count) key
 
--- The table with one key more, a root of rank 0. "a new key logs its index". All four numbers of the row are written, whatever they
--- held (docs/DECISIONS.md, 14).
+-- The table with one key more, a root of rank 0.
 abbrev pub grown : Table → Value → Table
 grown t v =
     let key = t .state .count in
-    let m = logged (NewElem key) (memoryOf t) in
-    table (putRow (m .rows) key (row key 0 v)) (m .log) (counting (t .state) (key + 1) (m .used) (t .state .«open»))
+    let m = push (memoryOf t) key (row key 0 v) in
+    table (m .rows) (m .log) (counting (t .state) (key + 1) (m .used) (t .state .«open»))
 
 abbrev pub new : Table → Value → Outcome
 new t v =
@@ -57,11 +55,10 @@ rollback t token =
     (refuse (unfit s m || not (undoable (m .keys) (s .count) es)) BROKEN-TABLE t
     (outcome (refusal DONE) (table (undo (t .rows) es) (t .log) (rolledBack s m))))
 
--- A call on a table whose state and lent parts are not bad. "Keys since a snapshot are those from the mark's key count up to the
--- count." "Has-changes is yes exactly when used is above the mark's log length."
+-- A call on a table whose state and lent parts are not bad.
 unfoldable pub call : Table → Call → Outcome
 call t (New owner amount) = new t (value (ownerOf owner) amount)
-call t Len = resting t (answered (range 0 (t .state .count)) (t .state))
+call t Len = resting t (len (t .state))
 call t (Find key) = one t key findOn
 call t (Unioned a b) = two t a b unionedOn
 call t (Join a b) = two t a b joinOn
@@ -72,9 +69,9 @@ call t (TryProbe key) = live t key (tryProbe (t .rows) key)
 call t Snapshot = resting t (snapshot (t .state))
 call t (Rollback token) = rollback t token
 call t (Commit token) = resting t (commit (t .state) token)
-call t (Keys token) = resting t (ask (t .state) token (λ m. range (m .keys) (t .state .count)))
-call t (Actions token) = resting t (ask (t .state) token (λ m. range (m .«log_len») (t .state .used)))
-call t (Changes token) = resting t (ask (t .state) token (λ m. said (ltb (m .«log_len») (t .state .used)) 0))
+call t (Keys token) = resting t (keysSince (t .state) token)
+call t (Actions token) = resting t (actionsSince (t .state) token)
+call t (Changes token) = resting t (hasChanges (t .state) token)
 
 -- Any call on any table whatever: BAD_STATE comes before all else.
 unfoldable pub step : Table → Call → Outcome

@@ -14,7 +14,7 @@ use Rattle.rules.specs.declared.call.Answer.{Answer}
 use Rattle.rules.specs.declared.call.Answered.{Answered}
 use Rattle.rules.specs.Numbers.{DONE, NOT-INNERMOST, TOO-DEEP, BROKEN-TABLE, SERIALS-SPENT, NOT-OPEN, MAX-OPEN, MAX-U64}
 use Rattle.rules.specs.Lent.{Rows, Log, entryAt, putRow, mark, markAt, counting}
-use Rattle.rules.specs.Answer.{refusal, opened, answered, refuseState}
+use Rattle.rules.specs.Answer.{refusal, said, range, opened, answered, refuseState}
 
 -- "A snapshot's mark holds a serial, log length and key count. The token is the serial: first 1, then one more each time, never
 -- taken back by rollback or commit."
@@ -76,6 +76,22 @@ asked s reply (Held m) = refuseState (unfit s m) BROKEN-TABLE s (answered (reply
 abbrev pub ask : State → ℕ → (Mark → Answer) → Answered
 ask s token reply = asked s reply (seek s token (s .«open»))
 
+-- "Keys since a snapshot are those from the mark's key count up to the count."
+abbrev pub keysSince : State → ℕ → Answered
+keysSince s token = ask s token (λ m. range (m .keys) (s .count))
+
+-- "Actions since a snapshot are shown as a view of the log from the mark's length to its used end .. for any open token."
+abbrev pub actionsSince : State → ℕ → Answered
+actionsSince s token = ask s token (λ m. range (m .«log_len») (s .used))
+
+-- "Has-changes is yes exactly when used is above the mark's log length."
+abbrev pub hasChanges : State → ℕ → Answered
+hasChanges s token = ask s token (λ m. said (ltb (m .«log_len») (s .used)) 0)
+
+-- "Live keys are 0 to count − 1."
+abbrev pub len : State → Answered
+len s = answered (range 0 (s .count)) s
+
 -- ---- rollback
 
 -- The `n` entries from `base` on, "newest first".
@@ -111,8 +127,8 @@ rolledBack s m = counting s (m .keys) (m .«log_len») (s .«open» - 1)
 
 -- ---- the view
 
--- "Actions since a snapshot are shown as a view of the log from the mark's length to its used end": entry i of the view is
--- `entryAt` of this part. Past its end, that is `Unknown`.
+-- The view "of the log from the mark's length to its used end, entry by entry": entry i is `entryAt` of this part. Past its end,
+-- that is `Unknown`.
 abbrev pub part : ℕ → ℕ → List ℕ → List ℕ
 part a e l = take (e - a) (drop a l)
 

@@ -7,7 +7,7 @@ use lib.Dec.{eqb, ltb}
 use Rattle.rules.specs.declared.table.Value.{Value}
 use Rattle.rules.specs.declared.table.Row.{Row}
 use Rattle.rules.specs.declared.table.UndoLog.{UndoLog}
-use Rattle.rules.specs.declared.table.UndoLog.the-variants.{SetElem}
+use Rattle.rules.specs.declared.table.UndoLog.the-variants.{NewElem, SetElem}
 use Rattle.rules.specs.Lent.{Rows, Log, Table, table, row, valueOf, rowAt, putRow, putEntry, counting}
 
 -- A row is redirected, and keeps all else; or a root gets a rank and a value, and keeps its parent.
@@ -59,6 +59,12 @@ abbrev pub put : Memory → Write → Memory
 put m w =
     let l = logged (SetElem (place w) (rowAt (m .rows) (place w))) m in
     memory (write (m .rows) w) (l .log) (l .opened) (l .used)
+
+-- A new key's row: "a new key logs its index". All four numbers of the row are written, whatever they held (docs/DECISIONS.md, 14).
+abbrev pub push : Memory → ℕ → Row → Memory
+push m key r =
+    let l = logged (NewElem key) m in
+    memory (putRow (m .rows) key r) (l .log) (l .opened) (l .used)
 
 unfoldable pub puts : Memory → List Write → Memory
 puts m [] = m

@@ -1,5 +1,6 @@
 ghost use mathlib.Core.Path.{_≡_};
-ghost use Rattle.rules.specs.Lent.{value};
+ghost use Rattle.rules.specs.Numbers.{DONE};
+ghost use Rattle.rules.specs.Lent.{none, value};
 ghost use Rattle.rules.specs.Answer.{answer, refusal, stepped, found, probed, said, range, opened, answered};
 use crate::call::Answer;
 use crate::call::Answered;
@@ -73,44 +74,53 @@ pub fn said(yes: bool, steps: u32) -> Answer
     answer(DONE, 0, 0, Value { owner, amount }, steps, yes, 0, 0)
 }
 
-pub fn range(from: u32, to: u32) -> Answer
-    ensures { λ r. ⌜ r ≡ range from to ⌝ }
-{
-    let owner = Owner::Nobody;
-    let amount = 0;
-    answer(DONE, 0, 0, Value { owner, amount }, 0, false, from, to)
-}
-
-pub fn opened(token: u64) -> Answer
-    ensures { λ r. ⌜ r ≡ opened token ⌝ }
-{
-    let owner = Owner::Nobody;
-    let amount = 0;
-    answer(DONE, 0, token, Value { owner, amount }, 0, false, 0, 0)
-}
-
-// An answer beside the state that goes with it.
-pub fn answered(answer: Answer, state: State) -> Answered
-    ensures { λ r. ⌜ r ≡ answered answer state ⌝ }
-{
-    Answered { answer, state }
-}
-
 // A refusal beside the state as it came.
 pub fn refused(no: u32, state: State) -> Answered
     ensures { λ r. ⌜ r ≡ answered (refusal no) state ⌝ }
+{
+    reported(no, 0, false, 0, 0, state)
+}
+
+// DONE, with nothing to say.
+pub fn done(state: State) -> Answered
+    ensures { λ r. ⌜ r ≡ answered (refusal DONE) state ⌝ }
+{
+    reported(DONE, 0, false, 0, 0, state)
+}
+
+pub fn opened(token: u64, state: State) -> Answered
+    ensures { λ r. ⌜ r ≡ answered (opened token) state ⌝ }
+{
+    reported(DONE, token, false, 0, 0, state)
+}
+
+pub fn told(yes: bool, state: State) -> Answered
+    ensures { λ r. ⌜ r ≡ answered (said yes 0) state ⌝ }
+{
+    reported(DONE, 0, yes, 0, 0, state)
+}
+
+pub fn ranged(from: u32, to: u32, state: State) -> Answered
+    ensures { λ r. ⌜ r ≡ answered (range from to) state ⌝ }
+{
+    reported(DONE, 0, false, from, to, state)
+}
+
+// An answer that names no key and no value, beside the state that goes with it.
+fn reported(no: u32, token: u64, yes: bool, from: u32, to: u32, state: State) -> Answered
+    ensures { λ r. ⌜ r ≡ answered (answer no 0 token none 0 yes from to) state ⌝ }
 {
     let owner = Owner::Nobody;
     let answer = Answer {
         no,
         key: 0,
-        token: 0,
+        token,
         owner,
         amount: 0,
         steps: 0,
-        yes: false,
-        from: 0,
-        to: 0,
+        yes,
+        from,
+        to,
     };
     Answered { answer, state }
 }

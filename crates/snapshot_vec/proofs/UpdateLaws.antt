@@ -1,0 +1,51 @@
+-- Laws of a row's write: first the entry, then the columns. Assumes nothing.
+use mathlib.Core.Path.{_≡_, ap, _∙_}
+use Prim.Native.Nat.{ℕ, _+_}
+use lib.ListN.{set}
+use borrow.Author.Tests.{eq-eqb, ne-eqb}
+use Rattle.rules.specs.declared.table.UndoLog.{UndoLog}
+use Rattle.rules.specs.declared.table.UndoLog.the-variants.{NewElem, SetElem}
+use Rattle.rules.specs.declared.table.Row.{Row}
+use Rattle.rules.specs.declared.table.Value.{Value}
+use Rattle.rules.specs.Lent.{Rows, Log, rowAt, numberOf, putRow, putEntry}
+use Rattle.rules.specs.Write.{Memory, memory, logged, put, push, redirect, crown}
+use Rattle.rules.proofs.RowLaws.{write-redirect, write-crown}
+
+-- nothing is logged with no snapshot open
+pub logged-shut : (e : UndoLog) (rs : Rows) (l : Log) (o u : ℕ) → o ≡ 0 → memory rs l o u ≡ logged e (memory rs l o u)
+logged-shut e rs l o u q = rw (eq-eqb o 0 q)
+
+pub logged-open : (e : UndoLog) (rs : Rows) (l l′ : Log) (o u : ℕ) → (o ≡ 0 → ⊥) → l′ ≡ putEntry l u e
+    → memory rs l′ o (u + 1) ≡ logged e (memory rs l o u)
+logged-open e rs l l′ o u n q = rw (ne-eqb o 0 n, q)
+
+-- a row is logged
+pub logged-row : (m : Memory) (i : ℕ) (old : Row) {m′ : Memory} → old ≡ rowAt (m .rows) i → m′ ≡ logged (SetElem i old) m
+    → m′ ≡ logged (SetElem i (rowAt (m .rows) i)) m
+logged-row m i old q e = e ∙ ap (λ (r : Row). logged (SetElem i r) m) q
+
+module _ (m : Memory) (key : ℕ) (m′ : Memory) (e : m′ ≡ logged (SetElem key (rowAt (m .rows) key)) m) where
+  -- then its parent is written
+  pub redirected : (root : ℕ)
+      → memory (record { parents = set (m′ .rows .parents) key root; ranks = m′ .rows .ranks; owners = m′ .rows .owners; amounts = m′ .rows .amounts })
+      (m′ .log) (m′ .opened) (m′ .used)
+      ≡ put m (redirect key root)
+  redirected root = rw (e, write-redirect (m .rows) key root)
+
+  -- or its rank and value
+  pub crowned : (rank number : ℕ) (v : Value) → number ≡ numberOf (v .owner)
+      → memory
+      (record {
+        parents = m′ .rows .parents;
+        ranks = set (m′ .rows .ranks) key rank;
+        owners = set (m′ .rows .owners) key number;
+        amounts = set (m′ .rows .amounts) key (v .amount);
+      })
+      (m′ .log) (m′ .opened) (m′ .used)
+      ≡ put m (crown key rank v)
+  crowned rank number v q = rw (e, q, write-crown (m .rows) key rank v)
+
+-- a new key's row is made
+pub push-is : (m : Memory) (key : ℕ) (r : Row) (m′ : Memory) (rs : Rows) → m′ ≡ logged (NewElem key) m → rs ≡ putRow (m .rows) key r
+    → memory rs (m′ .log) (m′ .opened) (m′ .used) ≡ push m key r
+push-is m key r m′ rs e q = rw (e, q)

@@ -1,0 +1,32 @@
+-- What the leaves ask of their callers: that an index lies within what is lent.
+use mathlib.Core.Path.{_≡_}
+use Prim.Native.Nat.{ℕ, _<_}
+use lib.ListN.{length}
+use Rattle.rules.specs.declared.table.UndoLog.{UndoLog}
+use Rattle.rules.specs.declared.table.UndoLog.the-variants.{NewElem, SetElem, Unknown}
+use Rattle.rules.specs.Numbers.{MAX-ENTRIES}
+use Rattle.rules.specs.Lent.{Rows, Log}
+
+-- i is a row
+pub record InRows (i : ℕ) (rs : Rows) : Type 0 where
+  pub parents : i < length (rs .parents)
+  pub ranks : i < length (rs .ranks)
+  pub owners : i < length (rs .owners)
+  pub amounts : i < length (rs .amounts)
+
+-- u is an entry of the log
+pub record InLog (u : ℕ) (l : Log) : Type 0 where
+  pub kinds : u < length (l .kinds)
+  pub keys : u < length (l .keys)
+  pub old : InRows u (l .old)
+  pub limit : u < MAX-ENTRIES
+
+-- where a snapshot is open, u is an entry of the log
+abbrev pub Loggable : ℕ → ℕ → Log → Type 0
+Loggable opened u l = (opened ≡ 0 → ⊥) → InLog u l
+
+-- a changed row to be undone is a row
+abbrev pub Undoing : UndoLog → Rows → Type 0
+Undoing (NewElem key) rs = Unit {0}
+Undoing (SetElem key old) rs = InRows key rs
+Undoing Unknown rs = Unit {0}

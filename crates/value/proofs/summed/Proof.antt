@@ -1,0 +1,17 @@
+-- `value::summed` meets its contract. Assumes nothing.
+use Prim.Native.Nat.{_+_}
+use native.Mathlib.Omega.{arith}
+use borrow.Author.Needs.{needs}
+use borrow.Author.Tests.{lt-ltb, le-ltb}
+use Rattle.rules.specs.Numbers.{MAX-U64}
+use Rattle.value.proofs.summed.Statement.{statement}
+use Rattle.value.proofs.summed.Tie as tie
+
+returns : tie.Need-returns
+returns c = rw (lt-ltb MAX-U64 (c .before .args .a + c .before .args .b) (omega arith))
+
+returns-2 : tie.Need-returns-2
+returns-2 c = rw (le-ltb MAX-U64 (c .before .args .a + c .before .args .b) (omega arith))
+
+pub summed-spec : {M : Type 1} → statement M
+summed-spec = tie.close (tie.spec (search needs) returns (search needs) returns-2)
