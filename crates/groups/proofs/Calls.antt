@@ -1,16 +1,16 @@
 -- The central law: whatever the call, a table that stands for a history stands for the history with that call and its answer; and the
 -- answer is never BROKEN_TABLE or BAD_STATE.
-use mathlib.Core.Path.{_≡_, refl, sym, ap, ap₂, _∙_, subst, subst⁻¹}
+use mathlib.Core.Path.{_≡_, refl, sym, ap, _∙_, subst}
 use mathlib.Core.Logic.{_≢_}
-use mathlib.Core.Bool.{Bool, true, false, cond, not, _||_, _&&_}
+use mathlib.Core.Bool.{Bool, true, false, cond}
 use mathlib.Core.List.{List, [], _∷_, _++_}
 use Prim.Native.Nat.{ℕ, zero, suc, _+_, _-_, _≤_, _<_, zero-le}
-use native.Mathlib.Nat.{le-refl, le-trans}
+use native.Mathlib.Nat.{le-refl}
 use native.Mathlib.Omega.{arith}
-use lib.ListN.{length, getD, set, length-set}
+use lib.ListN.{length, length-set}
 use lib.Seq.{getD-set-same, getD-set-other}
 use lib.Dec.{eqb, ltb, leb}
-use borrow.Author.Tests.{eqb-true, eqb-false, eq-eqb, ne-eqb, le-ltb, lt-ltb, ltb-false, leb-false, leb-true}
+use borrow.Author.Tests.{eqb-true, eqb-false, eq-eqb, ne-eqb, le-ltb, ltb-false, leb-false}
 use Rattle.rules.specs.declared.call.Call.{Call}
 use Rattle.rules.specs.declared.call.Call.the-variants.{New, Len, Find, Unioned, Join, Post, Probe, ProbeKey, TryProbe, Snapshot, Rollback, Commit, Keys, Actions, Changes}
 use Rattle.rules.specs.declared.call.Answer.{Answer}
@@ -18,29 +18,28 @@ use Rattle.rules.specs.declared.call.Answered.{Answered}
 use Rattle.rules.specs.declared.table.Value.{Value}
 use Rattle.rules.specs.declared.table.Mark.{Mark}
 use Rattle.rules.specs.declared.table.State.{State}
-use Rattle.rules.specs.declared.table.Sought.{Sought}
-use Rattle.rules.specs.declared.table.Sought.the-variants.{Missing, Held}
 use Rattle.rules.specs.declared.table.UndoLog.{UndoLog}
 use Rattle.rules.specs.declared.table.UndoLog.the-variants.{NewElem}
-use Rattle.rules.specs.Numbers.{DONE, MAX-OPEN, MAX-ROWS, MAX-ENTRIES, MAX-U64}
-use Rattle.rules.specs.Lent.{Rows, Log, Table, table, value, ownerOf, row, rowAt, putRow, mark, markAt, fresh, counting}
-use Rattle.rules.specs.Answer.{answer, refusal, found, said, range, opened, answered}
+use Rattle.rules.specs.Numbers.{DONE, MAX-OPEN, MAX-U64}
+use Rattle.rules.specs.Lent.{Rows, Log, Table, table, value, ownerOf, row, putRow, mark, markAt, fresh, counting}
+use Rattle.rules.specs.Answer.{answer, refusal, found, said, range, opened}
 use Rattle.rules.specs.Write.{memoryOf, logged, full, puts, writes}
 use Rattle.rules.specs.Plan.{Plan, Walked, walk, walkBoth, findOn, unionedOn, joinOn, postOn, probeOn, probeKeyOn, tryProbe}
-use Rattle.rules.specs.Tokens.{marked, innermost, notInnermost, seek, unfit, snapshot, committed, stranded, commit, asked, ask, newestFirst, since, undoable, reversed, undo, rolledBack}
-use Rattle.rules.specs.Refusal.{Outcome, outcome, refused, refuse, carry, sizesOf, bad}
-use Rattle.rules.specs.Step.{notLive, grown, new, live, one, two, resting, rollback, call, step}
-use Rattle.groups.specs.Groups.{Groups, Deed, created, step as groupStep, replay, Accepts}
-use Rattle.groups.specs.Track.{Calm, Event, event, History, Act, idle, moves, takes, undoes, closes, act, deedOf, Saved, Track, noted, track, newer, lastToken, Innermost, Follows, Orderly}
-use Rattle.groups.specs.Stands.{WideRows, WideLog, Made, Leads-back, Lends, Stands, Shows}
-use Rattle.groups.proofs.Tools.{cases, bySame}
+use Rattle.rules.specs.Tokens.{marked, innermost, seek, unfit, snapshot, commit, asked, ask, newestFirst, since, undoable, undo, rolledBack}
+use Rattle.rules.specs.Refusal.{Outcome, outcome, refused, carry, sizesOf, bad}
+use Rattle.rules.proofs.StateLaws.{good-bad}
+use Rattle.rules.specs.Step.{new, live, one, two, resting, rollback, call, step}
+use Rattle.groups.specs.Groups.{Groups, created, step as groupStep, replay}
+use Rattle.groups.specs.Track.{Calm, Event, event, History, Act, idle, moves, takes, undoes, closes, act, deedOf, Saved, Track, noted, track, newer, lastToken, Follows, Orderly}
+use Rattle.groups.specs.Stands.{WideRows, Made, Leads-back, Lends, Stands, Shows}
+use Rattle.groups.proofs.Tools.{cases}
 use Rattle.groups.proofs.RowLaws.{Real, real-owner, wide-put, alike-past}
-use Rattle.groups.proofs.Whole.{Whole, whole}
+use Rattle.groups.proofs.Whole.{whole}
 use Rattle.groups.proofs.Forest.{created-shows, shows-none}
 use Rattle.groups.proofs.Walks.{Holds, wrote}
 use Rattle.groups.proofs.Undoing.{undoable-le, wide-undo, back-marks, back-alike, back-commit, back-fits}
 use Rattle.groups.proofs.Logging.{Logged, log-one, log-puts, puts-rows}
-use Rattle.groups.proofs.Plans.{calm, Quiet, after, Planned, find-planned, probe-planned, probe-key-planned, try-planned, post-planned, unioned-planned, join-planned}
+use Rattle.groups.proofs.Plans.{calm, Quiet, Planned, find-planned, probe-planned, probe-key-planned, try-planned, post-planned, unioned-planned, join-planned}
 
 pub record Keeps (h : History) (c : Call) (o : Outcome) : Type 0 where
   pub stands : Stands (o .table) (event c (o .answer) ∷ h)
@@ -403,39 +402,33 @@ module _ {t : Table} {h : History} (S : Stands t h) where
   keeps-call (Changes token) = keeps-ask (Changes token) token (λ m. said (ltb (m .«log_len») (t .state .used)) 0) (λ m. refl) (λ m. calm 0 refl refl)
 
   -- "nothing open and used not 0" is not so.
-  nothing-used : (ys : List Saved) → track h .saved ≡ ys → cond (eqb (t .state .«open») 0) (not (eqb (t .state .used) 0)) false ≡ false
-  nothing-used [] e =
-      let u : t .state .used ≡ 0 = rw e at (S .back) in rw (eq-eqb (t .state .«open») 0 (none-open e), eq-eqb (t .state .used) 0 u)
-  nothing-used (x ∷ xs) e = rw (ne-eqb (t .state .«open») 0 (busy x xs e))
+  nothing-used : (ys : List Saved) → track h .saved ≡ ys → t .state .«open» ≡ 0 → t .state .used ≡ 0
+  nothing-used [] e z = rw e at (S .back)
+  nothing-used (x ∷ xs) e z = absurd (busy x xs e z)
 
   -- The state and what is lent are not bad.
   not-bad : bad (sizesOf t) (t .state) ≡ false
-  unfolding bad
   not-bad =
       let R = S .lends .row-parts in
       let L = S .lends .log-parts in
-      let n : ℕ = S .room in
-      let k : ℕ = S .log-room in
-      rw (
-        R .0,
-        R .1,
-        R .2,
-        R .3,
-        L .0,
-        L .1,
-        L .2 .0,
-        L .2 .1,
-        L .2 .2,
-        L .2 .3,
-        le-ltb MAX-ROWS n (S .lends .row-limit),
-        eq-eqb n n refl,
-        le-ltb MAX-ENTRIES k (S .lends .log-limit),
-        eq-eqb k k refl,
-        le-ltb n (t .state .count) (S .fits),
-        le-ltb k (t .state .used) (S .log-fits),
-        le-ltb MAX-OPEN (t .state .«open») (omega (arith, S .opened, S .open-fits)),
-        nothing-used (track h .saved) refl,
-      )
+      good-bad (sizesOf t) (t .state) (record {
+        level = record {
+          ranks = R .1 ∙ sym (R .0);
+          owners = R .2 ∙ sym (R .0);
+          amounts = R .3 ∙ sym (R .0);
+          keys = L .1 ∙ sym (L .0);
+          old-parents = L .2 .0 ∙ sym (L .0);
+          old-ranks = L .2 .1 ∙ sym (L .0);
+          old-owners = L .2 .2 ∙ sym (L .0);
+          old-amounts = L .2 .3 ∙ sym (L .0);
+        };
+        rows = rw (R .0) (S .lends .row-limit);
+        log = rw (L .0) (S .lends .log-limit);
+        count = rw (R .0) (S .fits);
+        used = rw (L .0) (S .log-fits);
+        opened = omega (arith, S .opened, S .open-fits);
+        shut = nothing-used (track h .saved) refl;
+      })
 
   pub keeps : (c : Call) → Keeps h c (step t c)
   unfolding step

@@ -1,14 +1,13 @@
 -- Rows that show groups: what a compression, a join, a post and a new key keep of that.
 use mathlib.Core.Path.{_≡_, refl, sym, ap, _∙_, subst, subst⁻¹, fun-ext}
-use mathlib.Core.Logic.{_≢_, _⊎_, inl, inr}
-use mathlib.Core.Bool.{cond}
-use Prim.Native.Nat.{ℕ, suc, _+_, _^_, _≤_, _<_}
+use mathlib.Core.Logic.{_≢_}
+use Prim.Native.Nat.{ℕ, suc, _≤_, _<_}
 use native.Mathlib.Nat.{le-refl, le-step, le-trans, le-of-eq, not-suc-le-zero}
 use native.Mathlib.Omega.{arith}
 use Rattle.rules.specs.declared.table.Value.{Value}
 use Rattle.rules.specs.declared.table.Row.{Row}
 use Rattle.rules.specs.Lent.{Rows, row, valueOf, rowAt}
-use Rattle.groups.specs.Groups.{Groups, noGroups, Deed, created, at, shift, hung, step}
+use Rattle.groups.specs.Groups.{Groups, noGroups, created, at, shift, hung, step}
 use Rattle.groups.specs.Stands.{up, high, Leads, here, along, Shows}
 use Rattle.groups.proofs.Tools.{bySame, upTo}
 use Rattle.groups.proofs.SumLaws.{at-hit, at-miss, shift-hit, shift-miss}

@@ -10,3 +10,4 @@ pub mod Undoing
 pub mod Logging
 pub mod Plans
 pub mod Calls
+pub mod ShownLaws

@@ -1,23 +1,20 @@
 -- What is logged leads back over what is written.
-use mathlib.Core.Path.{_≡_, refl, sym, ap, _∙_, subst, subst⁻¹}
+use mathlib.Core.Path.{_≡_, refl}
 use mathlib.Core.Logic.{_≢_}
-use mathlib.Core.Bool.{Bool, true, false, cond, _&&_}
+use mathlib.Core.Bool.{true}
 use mathlib.Core.List.{List, [], _∷_}
-use Prim.Native.Nat.{ℕ, zero, suc, _+_, _-_, _≤_, _<_}
-use native.Mathlib.Nat.{zero-lt-suc}
+use Prim.Native.Nat.{ℕ, suc, _+_, _≤_, _<_}
 use native.Mathlib.Omega.{arith}
 use lib.ListN.{length, getD}
-use lib.Dec.{eqb, ltb}
 use borrow.Author.Tests.{eq-eqb, ne-eqb, lt-ltb}
 use Rattle.rules.specs.declared.table.UndoLog.{UndoLog}
-use Rattle.rules.specs.declared.table.UndoLog.the-variants.{NewElem, SetElem}
+use Rattle.rules.specs.declared.table.UndoLog.the-variants.{SetElem}
 use Rattle.rules.specs.declared.table.Mark.{Mark}
-use Rattle.rules.specs.declared.table.Row.{Row}
-use Rattle.rules.specs.Lent.{Rows, Log, rowAt, putRow, entryAt, putEntry}
+use Rattle.rules.specs.Lent.{Rows, Log, rowAt, putEntry}
 use Rattle.rules.specs.Write.{Write, place, edit, write, writes, Memory, logged, put, puts}
 use Rattle.rules.specs.Tokens.{undoable, reversed}
 use Rattle.groups.specs.Track.{Saved}
-use Rattle.groups.specs.Stands.{Leads-back, WideRows, WideLog}
+use Rattle.groups.specs.Stands.{Leads-back, WideLog}
 use Rattle.groups.proofs.RowLaws.{real-owner, put-back}
 use Rattle.groups.proofs.Walks.{Inside}
 use Rattle.groups.proofs.Undoing.{Known, entry-hit, entry-miss, wide-entry, back-entry}

@@ -1,7 +1,7 @@
 -- What a merge that succeeds gives. Nothing else is known of it here or above, so that another merge changes this file alone.
-use mathlib.Core.Path.{_≡_, refl, sym, ap, _∙_}
-use mathlib.Core.Logic.{_↔_, _≢_, _⊎_, inl, inr}
-use mathlib.Core.Bool.{Bool, true, false, cond}
+use mathlib.Core.Path.{_≡_, ap, _∙_}
+use mathlib.Core.Logic.{_↔_, _⊎_, inl, inr}
+use mathlib.Core.Bool.{true, false}
 use Prim.Native.Nat.{ℕ, _+_}
 use native.Mathlib.Omega.{arith}
 use lib.Dec.{eqb, ltb}
@@ -9,7 +9,6 @@ use borrow.Author.Tests.{eqb-true}
 use Rattle.rules.specs.declared.table.Owner.{Owner}
 use Rattle.rules.specs.declared.table.Owner.the-variants.{Nobody, Tenant}
 use Rattle.rules.specs.declared.table.Value.{Value}
-use Rattle.rules.specs.declared.table.Merged.{Merged}
 use Rattle.rules.specs.declared.table.Merged.the-variants.{Clash, TooMuch, Both}
 use Rattle.rules.specs.Numbers.{MAX-U64}
 use Rattle.rules.specs.Lent.{value}

@@ -1,38 +1,36 @@
 -- The plan of each call on rows: carried out, it moves the groups as the groups' own step says, and it is never BROKEN_TABLE.
 use mathlib.Core.Path.{_≡_, refl, sym, ap, ap₂, _∙_, subst, subst⁻¹}
-use mathlib.Core.Logic.{_≢_, _⊎_, inl, inr}
-use mathlib.Core.Bool.{Bool, true, false, cond, _||_}
+use mathlib.Core.Logic.{_≢_, inl, inr}
+use mathlib.Core.Bool.{Bool, true, false, cond}
 use mathlib.Core.List.{List, [], _∷_, _++_}
-use Prim.Native.Nat.{ℕ, zero, suc, _+_, _≤_, _<_}
+use Prim.Native.Nat.{ℕ, _+_, _≤_, _<_}
 use native.Mathlib.Omega.{arith}
-use lib.ListN.{length, getD}
+use lib.ListN.{getD}
 use lib.Dec.{eqb, ltb}
 use borrow.Author.Tests.{eqb-true, eqb-false, eq-eqb, ne-eqb, le-ltb}
 use Rattle.rules.specs.declared.call.Call.{Call}
 use Rattle.rules.specs.declared.call.Call.the-variants.{Find, Unioned, Join, Post, Probe, ProbeKey, TryProbe}
 use Rattle.rules.specs.declared.call.Answer.{Answer}
-use Rattle.rules.specs.declared.table.Owner.{Owner}
-use Rattle.rules.specs.declared.table.Owner.the-variants.{Tenant}
 use Rattle.rules.specs.declared.table.Value.{Value}
 use Rattle.rules.specs.declared.table.Row.{Row}
 use Rattle.rules.specs.declared.table.Merged.{Merged}
 use Rattle.rules.specs.declared.table.Merged.the-variants.{Clash, TooMuch, Both}
-use Rattle.rules.specs.Numbers.{DONE, BROKEN-TABLE, BAD-STATE, MAX-REDIRECTS, MAX-RANK}
-use Rattle.rules.specs.Lent.{Rows, none, value, ownerOf, row, valueOf, rowAt, putRow}
+use Rattle.rules.specs.Numbers.{DONE, BROKEN-TABLE, BAD-STATE, MAX-RANK}
+use Rattle.rules.specs.Lent.{Rows, value, ownerOf, row, valueOf, rowAt, putRow}
 use Rattle.rules.specs.Merge.{merge}
-use Rattle.rules.specs.Walk.{Path, broken, to, path, steps}
-use Rattle.rules.specs.Write.{Write, redirect, crown, place, edit, write, writes}
-use Rattle.rules.specs.Answer.{answer, refusal, stepped, found, probed, said}
+use Rattle.rules.specs.Walk.{steps}
+use Rattle.rules.specs.Write.{Write, redirect, crown, edit, writes}
+use Rattle.rules.specs.Answer.{answer, stepped, found, probed, said}
 use Rattle.rules.specs.Plan.{Plan, plan, Walked, walkedOn, goOn, walk, walkBoth, settle, unite, tooHigh, findOn, unionedOn, joinOn, postOn, probeOn, probeKeyOn, tryProbe}
-use Rattle.groups.specs.Groups.{Groups, Deed, joined, posted, at, hung, united, ifBoth, step, replay, Accepts, Accepted}
-use Rattle.groups.specs.Track.{Calm, Event, event, Act, idle, moves, takes, undoes, closes, act, deedOf}
-use Rattle.groups.specs.Stands.{up, high, Shows, WideRows}
-use Rattle.groups.proofs.Tools.{cases, bySame, either}
+use Rattle.groups.specs.Groups.{Groups, Deed, joined, posted, at, hung, united, step, replay, Accepts, Accepted}
+use Rattle.groups.specs.Track.{Calm, event, Act, idle, moves, takes, undoes, closes, act, deedOf}
+use Rattle.groups.specs.Stands.{up, high, WideRows}
+use Rattle.groups.proofs.Tools.{cases, either}
 use Rattle.groups.proofs.RowLaws.{Real, real-owner, row-hit, row-miss, wide-put}
 use Rattle.groups.proofs.MergeLaws.{merge-sum}
-use Rattle.groups.proofs.Whole.{Whole, Ranked, by-rank, Hangs, hangs-a, hangs-b, hung-whole, step-whole, rank-low}
+use Rattle.groups.proofs.Whole.{Whole, by-rank, Hangs, hangs-a, hangs-b, hung-whole, step-whole, rank-low}
 use Rattle.groups.proofs.Forest.{is-root, hung-shows, posted-shows}
-use Rattle.groups.proofs.Walks.{Holds, Reaches, reaches, count-limit, Inside, inside-append, writes-append, wrote, rewritten, rewrites-inside}
+use Rattle.groups.proofs.Walks.{Holds, reaches, count-limit, Inside, inside-append, writes-append, wrote, rewritten, rewrites-inside}
 
 -- ---- what a plan keeps
 

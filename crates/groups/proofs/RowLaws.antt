@@ -4,13 +4,14 @@ use mathlib.Core.Logic.{_≢_}
 use mathlib.Core.List.{List}
 use Prim.Native.Nat.{ℕ, _<_}
 use native.Mathlib.Omega.{arith}
-use lib.ListN.{length, getD, set, length-set}
+use lib.ListN.{getD, set, length-set}
 use lib.Seq.{getD-set-same, getD-set-other, set-set, set-getD}
 use borrow.Author.Tests.{eq-eqb, ne-eqb}
 use Rattle.rules.specs.declared.table.Owner.{Owner}
 use Rattle.rules.specs.declared.table.Owner.the-variants.{Nobody, Tenant}
 use Rattle.rules.specs.declared.table.Row.{Row}
 use Rattle.rules.specs.Lent.{Rows, ownerOf, numberOf, value, row, rowAt, putRow}
+use Rattle.rules.proofs.RowLaws.{number-owner}
 use Rattle.groups.specs.Stands.{WideRows}
 use Rattle.groups.proofs.Tools.{bySame}
 
@@ -18,9 +19,6 @@ use Rattle.groups.proofs.Tools.{bySame}
 
 abbrev pub Real : Owner → Type 0
 Real o = o ≢ Tenant 0
-
-pub number-of-owner : (n : ℕ) → numberOf (ownerOf n) ≡ n
-number-of-owner n = bySame n 0 (λ e. rw (eq-eqb n 0 e) (sym e)) (λ d. rw (ne-eqb n 0 d))
 
 pub owner-of-number : (o : Owner) → Real o → ownerOf (numberOf o) ≡ o
 owner-of-number Nobody real = refl
@@ -68,7 +66,7 @@ put-back rs i r =
     rw (
       put-back-list (rs .parents) i (r .parent) (getD (rs .parents) i 0) refl,
       put-back-list (rs .ranks) i (r .rank) (getD (rs .ranks) i 0) refl,
-      put-back-list (rs .owners) i (numberOf (r .owner)) (numberOf (ownerOf (getD (rs .owners) i 0))) (number-of-owner (getD (rs .owners) i 0)),
+      put-back-list (rs .owners) i (numberOf (r .owner)) (numberOf (ownerOf (getD (rs .owners) i 0))) (number-owner (getD (rs .owners) i 0)),
       put-back-list (rs .amounts) i (r .amount) (getD (rs .amounts) i 0) refl,
     )
 

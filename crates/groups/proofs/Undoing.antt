@@ -1,30 +1,27 @@
 -- The undo log: undoing down to a mark gives back the very rows below the count that the mark was taken over.
-use mathlib.Core.Path.{_≡_, refl, sym, ap, _∙_, subst, subst⁻¹}
+use mathlib.Core.Path.{_≡_, refl, sym, ap, _∙_}
 use mathlib.Core.Logic.{_≢_}
-use mathlib.Core.Bool.{Bool, true, false, cond, _&&_, true≢false, and-eq-true-iff}
+use mathlib.Core.Bool.{true, true≢false, and-eq-true-iff}
 use mathlib.Core.List.{List, [], _∷_, _++_}
 use Prim.Native.Nat.{ℕ, zero, suc, _+_, _-_, _≤_, _<_}
-use native.Mathlib.Nat.{le-refl, le-trans}
+use native.Mathlib.Nat.{le-refl}
 use native.Mathlib.Omega.{arith}
 use lib.ListN.{length, getD, set, length-set}
 use lib.Seq.{getD-set-same, getD-set-other}
 use lib.Dec.{eqb, ltb}
-use borrow.Author.Tests.{eqb-true, eq-eqb, ne-eqb, ltb-true, lt-ltb}
+use borrow.Author.Tests.{eqb-true, ltb-true}
 use Rattle.rules.specs.declared.table.UndoLog.{UndoLog}
 use Rattle.rules.specs.declared.table.UndoLog.the-variants.{NewElem, SetElem, Unknown}
 use Rattle.rules.specs.declared.table.Mark.{Mark}
-use Rattle.rules.specs.declared.table.Row.{Row}
 use Rattle.rules.specs.Numbers.{KIND-UNKNOWN}
-use Rattle.rules.specs.Lent.{Rows, Log, kindOf, keyOf, oldOf, rowAt, putRow, entryAt, putEntry}
-use Rattle.rules.specs.Write.{Write, place, edit, write, writes, Memory, put, puts}
+use Rattle.rules.specs.Lent.{Rows, Log, kindOf, keyOf, oldOf, putRow, entryAt, putEntry}
 use Rattle.rules.specs.Tokens.{newestFirst, undoable, reversed, undo}
-use Rattle.groups.specs.Groups.{Deed, replay}
+use Rattle.groups.specs.Groups.{Deed}
 use Rattle.groups.specs.Track.{Saved}
-use Rattle.groups.specs.Stands.{Shows, Made, Leads-back, WideRows, WideLog}
-use Rattle.groups.proofs.Tools.{cases, bySame}
-use Rattle.groups.proofs.RowLaws.{Real, real-owner, row-hit, row-miss, wide-put, put-back, Alike, alike-put}
+use Rattle.groups.specs.Stands.{Made, Leads-back, WideRows, WideLog}
+use Rattle.groups.proofs.Tools.{bySame}
+use Rattle.groups.proofs.RowLaws.{Real, row-hit, row-miss, wide-put, Alike, alike-put}
 use Rattle.groups.proofs.Forest.{shows-alike}
-use Rattle.groups.proofs.Walks.{Inside}
 
 -- ---- an entry written, and the entries read afterwards
 

@@ -1,9 +1,9 @@
 -- The walk of the rules: it ends at the key's root within 16 redirects, and what it rewrites leaves the groups as they are.
-use mathlib.Core.Path.{_≡_, refl, sym, ap, _∙_, subst, subst⁻¹}
+use mathlib.Core.Path.{_≡_, refl, sym, ap, _∙_, subst}
 use mathlib.Core.Logic.{_≢_}
 use mathlib.Core.List.{List, [], _∷_, _++_}
 use Prim.Native.Nat.{ℕ, zero, suc, _+_, _^_, _≤_, _<_}
-use native.Mathlib.Nat.{le-trans, le-of-eq}
+use native.Mathlib.Nat.{le-trans}
 use native.Mathlib.Omega.{arith}
 use lib.ListN.{length, getD}
 use lib.Pow.{pow-mono}
@@ -11,7 +11,7 @@ use borrow.Author.Tests.{eq-eqb, ne-eqb, lt-ltb}
 use Rattle.rules.specs.declared.table.Row.{Row}
 use Rattle.rules.specs.Numbers.{MAX-ROWS, MAX-REDIRECTS}
 use Rattle.rules.specs.Lent.{Rows, row, valueOf, rowAt, putRow}
-use Rattle.rules.specs.Walk.{Path, broken, to, from, path}
+use Rattle.rules.specs.Walk.{to, from, path}
 use Rattle.rules.specs.Write.{Write, redirect, place, edit, write, writes}
 use Rattle.rules.specs.Plan.{rewrites}
 use Rattle.groups.specs.Sums.{size}

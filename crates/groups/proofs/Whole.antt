@@ -1,22 +1,22 @@
 -- What holds of the groups that accepted deeds make: each key has a live root that is its own root, and a root of rank r has at least
 -- 2^r keys in its group.
-use mathlib.Core.Path.{_≡_, refl, sym, ap, _∙_, subst, subst⁻¹}
+use mathlib.Core.Path.{_≡_, refl, sym, ap, _∙_, subst⁻¹}
 use mathlib.Core.Logic.{_≢_, _⊎_, inl, inr}
 use mathlib.Core.Bool.{cond}
 use mathlib.Core.List.{List, [], _∷_}
-use Prim.Native.Nat.{ℕ, zero, suc, _+_, _^_, _≤_, _<_, zero-le}
-use native.Mathlib.Nat.{le-refl, le-trans, le-of-eq, lt-of-not-le, not-le-of-lt, le-of-suc-le-suc, not-suc-le-zero}
+use Prim.Native.Nat.{ℕ, suc, _+_, _^_, _≤_, _<_}
+use native.Mathlib.Nat.{le-refl, le-trans, lt-of-not-le, not-le-of-lt, le-of-suc-le-suc, not-suc-le-zero}
 use native.Mathlib.Numerals.{add-one}
 use native.Mathlib.Omega.{arith}
 use lib.Pow.{pow-mono}
-use lib.Dec.{eqb, ltb, lit<}
+use lib.Dec.{ltb, lit<}
 use borrow.Author.Tests.{eq-eqb, ne-eqb, ltb-true, ltb-false}
 use Rattle.rules.specs.declared.table.Value.{Value}
 use Rattle.rules.specs.declared.table.Merged.the-variants.{Both}
 use Rattle.rules.specs.Merge.{merge}
 use Rattle.rules.specs.Numbers.{MAX-ROWS, MAX-RANK}
-use Rattle.groups.specs.Sums.{due, total, ones, size}
-use Rattle.groups.specs.Groups.{Groups, noGroups, Deed, created, joined, posted, at, shift, hung, united, ifBoth, step, replay, Merges, Accepts, Accepted}
+use Rattle.groups.specs.Sums.{total, ones, size}
+use Rattle.groups.specs.Groups.{Groups, noGroups, Deed, created, joined, posted, at, shift, hung, step, replay, Accepts, Accepted}
 use Rattle.groups.proofs.Tools.{cases, bySame, upTo, either}
 use Rattle.groups.proofs.SumLaws.{at-hit, at-miss, shift-hit, shift-miss, due-hit, total-shift, total-shift-other, size-le}
 
@@ -60,6 +60,18 @@ pub record Hangs (g : Groups) (a b low high k : ℕ) (v : Value) : Type 0 where
   pub ranked : Ranked (g .rank low) (g .rank high) k
   pub merged : merge (g .value (g .root a)) (g .value (g .root b)) ≡ Both v
   pub which : ((low ≡ g .root a) × (high ≡ g .root b)) ⊎ ((low ≡ g .root b) × (high ≡ g .root a))
+
+-- A root afterwards is `high`, or it was a root before, and neither of the two.
+pub hung-roots : {g : Groups} {a b low high k : ℕ} {v : Value} → Hangs g a b low high k v → (q : ℕ) → shift (g .root) low high q ≡ q
+    → (q ≡ high) ⊎ ((q ≢ low) × (q ≢ high) × (g .root q ≡ q))
+hung-roots {g} {a} {b} {low} {high} H q e =
+    bySame (g .root q) low
+    (λ z. inl (sym e ∙ shift-hit (g .root) low high q z))
+    (λ z. bySame q high (λ m. inl m) (λ m. inr (
+      λ y. z (ap (g .root) y ∙ H .low-root),
+      m,
+      sym (shift-miss (g .root) low high q z) ∙ e,
+    )))
 
 -- Either way round.
 module _ (g : Groups) (W : Whole g) (a b : ℕ) (ha : a < g .count) (hb : b < g .count) (d : g .root a ≢ g .root b) (v : Value)
@@ -114,9 +126,6 @@ module _ {g : Groups} (W : Whole g) where
       let root : ℕ → ℕ = g .root in
       let stays : (i : ℕ) → root i ≢ low → shift root low high (root i) ≡ root i = λ i q. shift-miss root low high (root i) (λ z. q (sym (W .settled i) ∙ z)) ∙ W .settled i in
       let top : shift root low high high ≡ high = shift-miss root low high high (λ z. d (sym z ∙ eh)) ∙ eh in
-      let not-low : (q : ℕ) → shift root low high q ≡ q → q ≢ low = λ q e m. d (sym m ∙ sym e ∙ shift-hit root low high q (ap root m ∙ el)) in
-      let old : (q : ℕ) → shift root low high q ≡ q → q ≢ high → root q ≡ q = λ q e n.
-      bySame (root q) low (λ z. absurd (n (sym e ∙ shift-hit root low high q z))) (λ z. sym (shift-miss root low high q z) ∙ e) in
       record {
         outside = λ i h. shift-miss root low high i (λ e. omega (arith, W .outside i h, H .low-live)) ∙ W .outside i h;
         within = λ i h. bySame (root i) low
@@ -125,10 +134,11 @@ module _ {g : Groups} (W : Whole g) where
         settled = λ i. bySame (root i) low
             (λ e. ap (shift root low high) (shift-hit root low high i e) ∙ top ∙ sym (shift-hit root low high i e))
             (λ e. ap (shift root low high) (shift-miss root low high i e) ∙ stays i e ∙ sym (shift-miss root low high i e));
-        big = λ q h e. bySame q high
+        big = λ q h e. either (hung-roots H q e)
             (λ m. subst⁻¹ (λ (z : ℕ). 2 ^ at high k (g .rank) z ≤ size (shift root low high) (g .count) z) m
-            (rw (at-hit high k (g .rank) high refl) (omega (arith, H .ranked .doubles, total-shift root low high d (ones (g .count)), W .big low (H .low-live) el, W .big high (H .high-live) eh))))
-            (λ n. rw (at-miss high k (g .rank) q n) (le-trans (W .big q h (old q e n)) (le-of-eq (sym (total-shift-other root low high q (not-low q e) n (ones (g .count)))))));
+            (rw (at-hit high k (g .rank) high refl)
+            (omega (arith, H .ranked .doubles, total-shift root low high d (ones (g .count)), W .big low (H .low-live) el, W .big high (H .high-live) eh))))
+            (λ m. rw (at-miss high k (g .rank) q (m .1), total-shift-other root low high q (m .0) (m .1) (ones (g .count))) (W .big q h (m .2)));
       }
 
   pub step-whole : (d : Deed) → Accepts g d → Whole (step g d)

@@ -2,18 +2,16 @@
 -- snapshot to rows that show the groups as each was taken.
 use mathlib.Core.Path.{_≡_}
 use mathlib.Core.Logic.{_≢_}
-use mathlib.Core.Bool.{true, false}
+use mathlib.Core.Bool.{true}
 use mathlib.Core.List.{List, [], _∷_}
 use Prim.Native.Nat.{ℕ, _-_, _≤_, _<_}
 use lib.ListN.{length}
-use Rattle.rules.specs.declared.table.UndoLog.{UndoLog}
 use Rattle.rules.specs.declared.table.Mark.{Mark}
-use Rattle.rules.specs.declared.table.State.{State}
 use Rattle.rules.specs.Numbers.{MAX-ROWS, MAX-ENTRIES, MAX-OPEN}
 use Rattle.rules.specs.Lent.{Rows, Log, Table, valueOf, rowAt, markAt}
 use Rattle.rules.specs.Tokens.{newestFirst, undoable, undo}
 use Rattle.groups.specs.Groups.{Groups, Deed, replay, Accepted}
-use Rattle.groups.specs.Track.{History, Saved, Track, track, lastToken, Orderly}
+use Rattle.groups.specs.Track.{History, Saved, track, lastToken, Orderly}
 
 -- ---- rows that show groups
 

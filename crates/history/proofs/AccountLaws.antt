@@ -1,9 +1,8 @@
 -- The groups that accepted deeds make, and what the deeds come to: links, sums, owners and keys.
-use mathlib.Core.Path.{_≡_, refl, sym, ap, ap₂, _∙_, subst, subst⁻¹}
-use mathlib.Core.Logic.{_↔_, _≢_, _⊎_, inl, inr}
-use mathlib.Core.Bool.{cond}
+use mathlib.Core.Path.{_≡_, refl, sym, ap, ap₂, _∙_}
+use mathlib.Core.Logic.{_↔_, _≢_, inl, inr}
 use mathlib.Core.List.{List, [], _∷_}
-use Prim.Native.Nat.{ℕ, zero, suc, _+_, _≤_, _<_}
+use Prim.Native.Nat.{ℕ, suc, _+_, _<_}
 use native.Mathlib.Nat.{le-refl, not-suc-le-zero}
 use native.Mathlib.Omega.{arith}
 use lib.Dec.{eqb}
@@ -13,13 +12,13 @@ use Rattle.rules.specs.declared.table.Owner.the-variants.{Nobody, Tenant}
 use Rattle.rules.specs.declared.table.Value.{Value}
 use Rattle.rules.specs.declared.table.Merged.the-variants.{Both}
 use Rattle.rules.specs.Merge.{merge}
-use Rattle.groups.specs.Sums.{Credits, due, total}
-use Rattle.groups.specs.Groups.{Groups, Deed, created, joined, posted, at, shift, hung, step, replay, Accepts, Accepted}
+use Rattle.groups.specs.Sums.{total}
+use Rattle.groups.specs.Groups.{Groups, Deed, created, joined, posted, shift, hung, step, replay, Accepts, Accepted}
 use Rattle.groups.proofs.Tools.{cases, bySame, upTo, either}
-use Rattle.groups.proofs.SumLaws.{at-hit, at-miss, shift-hit, shift-miss, due-hit, due-miss, total-shift, total-shift-other, Below, none, more, below-suc, total-none}
-use Rattle.groups.proofs.MergeLaws.{Sum, merge-sum}
-use Rattle.groups.proofs.Whole.{Whole, Hangs, join-cases, whole}
-use Rattle.history.specs.Account.{Pairs, joins, credits, byteSeconds, namedBy, namings, createdKeys, downFrom}
+use Rattle.groups.proofs.SumLaws.{at-hit, at-miss, due-hit, due-miss, total-shift, total-shift-other, Below, none, more, below-suc, total-none}
+use Rattle.groups.proofs.MergeLaws.{merge-sum}
+use Rattle.groups.proofs.Whole.{Whole, Hangs, hung-roots, join-cases, whole}
+use Rattle.history.specs.Account.{joins, credits, byteSeconds, namedBy, namings, createdKeys, downFrom}
 use Rattle.history.proofs.LinkLaws.{Links, links-same, links-hung, no-links}
 
 -- ---- naming
@@ -83,13 +82,13 @@ module _ {g : Groups} {ds : List Deed} (W : Whole g) (A : Account g ds) where
         links = A .links;
         values = λ r h m. upTo n r h
             (λ q. let z : r ≡ key = q ∙ sym e in
-            values-as (values-one v) (at key v (g .value) r) (due (g .root) r key (v .amount) + total (g .root) r (byteSeconds ds)) (λ k. due (g .root) r key (namedBy k (v .owner)) + total (g .root) r (namings k ds))
+            values-as (values-one v) _ _ _
             (at-hit key v (g .value) r z)
             (rw z (omega (arith, due-hit (g .root) key key (v .amount) own, alone (λ v. v .amount))))
             (λ k. rw z (omega (arith, due-hit (g .root) key key (namedBy k (v .owner)) own, alone (λ v. namedBy k (v .owner))))))
             (λ q. let d : r ≢ key = λ z. omega arith in
             let d′ : g .root key ≢ r = λ z. d (sym z ∙ own) in
-            values-as (A .values r q m) (at key v (g .value) r) (due (g .root) r key (v .amount) + total (g .root) r (byteSeconds ds)) (λ k. due (g .root) r key (namedBy k (v .owner)) + total (g .root) r (namings k ds))
+            values-as (A .values r q m) _ _ _
             (at-miss key v (g .value) r d)
             (omega (arith, due-miss (g .root) r key (v .amount) d′))
             (λ k. omega (arith, due-miss (g .root) r key (namedBy k (v .owner)) d′)));
@@ -107,13 +106,11 @@ module _ {g : Groups} {ds : List Deed} (W : Whole g) (A : Account g ds) where
       rw e (record {
         links = A .links;
         values = λ r hr m. bySame r r₀
-            (λ z. values-as (values-both (A .values r₀ (W .within key h) (W .settled key)) (values-one v) x e) (at r₀ x (g .value) r)
-            (due (g .root) r key (v .amount) + total (g .root) r (byteSeconds ds)) (λ k. due (g .root) r key (namedBy k (v .owner)) + total (g .root) r (namings k ds))
+            (λ z. values-as (values-both (A .values r₀ (W .within key h) (W .settled key)) (values-one v) x e) _ _ _
             (at-hit r₀ x (g .value) r z)
             (rw z (omega (arith, due-hit (g .root) r₀ key (v .amount) refl)))
             (λ k. rw z (omega (arith, due-hit (g .root) r₀ key (namedBy k (v .owner)) refl))))
-            (λ d. values-as (A .values r hr m) (at r₀ x (g .value) r)
-            (due (g .root) r key (v .amount) + total (g .root) r (byteSeconds ds)) (λ k. due (g .root) r key (namedBy k (v .owner)) + total (g .root) r (namings k ds))
+            (λ d. values-as (A .values r hr m) _ _ _
             (at-miss r₀ x (g .value) r d)
             (omega (arith, due-miss (g .root) r key (v .amount) (λ z. d (sym z))))
             (λ k. omega (arith, due-miss (g .root) r key (namedBy k (v .owner)) (λ z. d (sym z)))));
@@ -131,34 +128,25 @@ module _ {g : Groups} {ds : List Deed} (W : Whole g) (A : Account g ds) where
         let T = A .values high (H .high-live) (H .high-root) in
         either (H .which)
         (λ q. values-both L T v (ap₂ (λ (x y : ℕ). merge (g .value x) (g .value y)) (q .0) (q .1) ∙ H .merged))
-        (λ q. values-as (values-both T L v (ap₂ (λ (x y : ℕ). merge (g .value x) (g .value y)) (q .1) (q .0) ∙ H .merged)) v
-        (total (g .root) low (byteSeconds ds) + total (g .root) high (byteSeconds ds)) (λ n. total (g .root) low (namings n ds) + total (g .root) high (namings n ds))
-        refl (omega arith) (λ n. omega arith))
+        (λ q. values-as (values-both T L v (ap₂ (λ (x y : ℕ). merge (g .value x) (g .value y)) (q .1) (q .0) ∙ H .merged)) _ _ _ refl (omega arith) (λ n. omega arith))
 
     hung-account : Account (hung g low high k v) (joined a b ∷ ds)
     hung-account =
         let root : ℕ → ℕ = shift (g .root) low high in
         record {
           links = links-hung (A .links) a b low high (H .which);
-          values = λ r h m. bySame r high
-              (λ z. values-as hung-values (at high v (g .value) r) (total root r (byteSeconds ds)) (λ n. total root r (namings n ds))
+          values = λ r h m. either (hung-roots H r m)
+              (λ z. values-as hung-values _ _ _
               (at-hit high v (g .value) r z)
               (rw z (total-shift (g .root) low high (H .apart) (byteSeconds ds)))
               (λ n. rw z (total-shift (g .root) low high (H .apart) (namings n ds))))
-              (λ d. let q : r ≢ low = not-low r m in
-              values-as (A .values r h (old-root r m d)) (at high v (g .value) r) (total root r (byteSeconds ds)) (λ n. total root r (namings n ds))
-              (at-miss high v (g .value) r d)
-              (total-shift-other (g .root) low high r q d (byteSeconds ds))
-              (λ n. total-shift-other (g .root) low high r q d (namings n ds)));
+              (λ q. values-as (A .values r h (q .2)) _ _ _
+              (at-miss high v (g .value) r (q .1))
+              (total-shift-other (g .root) low high r (q .0) (q .1) (byteSeconds ds))
+              (λ n. total-shift-other (g .root) low high r (q .0) (q .1) (namings n ds)));
           keys = A .keys;
           below = A .below;
         }
-      where
-        not-low : (r : ℕ) → shift (g .root) low high r ≡ r → r ≢ low
-        not-low r m z = H .apart (sym z ∙ sym m ∙ shift-hit (g .root) low high r (ap (g .root) z ∙ H .low-root))
-
-        old-root : (r : ℕ) → shift (g .root) low high r ≡ r → r ≢ high → g .root r ≡ r
-        old-root r m d = bySame (g .root r) low (λ z. absurd (d (sym m ∙ shift-hit (g .root) low high r z))) (λ z. sym (shift-miss (g .root) low high r z) ∙ m)
 
   joined-account : (a b : ℕ) → Accepts g (joined a b) → Account (step g (joined a b)) (joined a b ∷ ds)
   joined-account a b acc =

@@ -1,17 +1,17 @@
 -- Document 01's survivors are those of the stack, in every history that follows the tokens' rules.
-use mathlib.Core.Path.{_≡_, refl, sym, ap, ap₂, _∙_, subst, subst⁻¹}
-use mathlib.Core.Logic.{_≢_, _⊎_, inl, inr}
+use mathlib.Core.Path.{_≡_, refl, sym, ap, _∙_}
+use mathlib.Core.Logic.{_⊎_, inl, inr}
 use mathlib.Core.Bool.{Bool, true, false, cond, not, _&&_, _||_, true≢false}
 use mathlib.Core.List.{List, [], _∷_, _++_, map}
-use Prim.Native.Nat.{ℕ, zero, suc, _≤_, _<_}
+use Prim.Native.Nat.{ℕ, suc, _≤_, _<_}
 use native.Mathlib.Nat.{le-refl}
 use native.Mathlib.Omega.{arith}
 use lib.Dec.{eqb}
-use borrow.Author.Tests.{eqb-true, eqb-false, eq-eqb, ne-eqb}
+use borrow.Author.Tests.{eqb-true, eq-eqb, ne-eqb}
 use Rattle.groups.specs.Groups.{Deed}
 use Rattle.groups.specs.Track.{Event, History, isDone, Act, idle, moves, takes, undoes, closes, act, deedOf, Saved, Track, dropped, restored, noted, track, newer, lastToken, Innermost, Follows, Orderly}
 use Rattle.groups.proofs.Tools.{cases, either}
-use Rattle.history.specs.Survival.{without, opening, openAfter, undoesIt, undoneIn, anyOf, rolledBack, survives, survivors, deeds, surviving}
+use Rattle.history.specs.Survival.{without, opening, openAfter, undoesIt, undoneIn, anyOf, rolledBack, survivors, deeds, surviving}
 
 -- ---- the open tokens
 

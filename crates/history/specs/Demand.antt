@@ -3,45 +3,23 @@ use mathlib.Core.Path.{_≡_}
 use mathlib.Core.Logic.{_↔_}
 use mathlib.Core.List.{List, [], _∷_}
 use Prim.Native.Nat.{ℕ, _^_, _≤_, _<_}
-use lib.ListN.{length}
 use Rattle.rules.specs.declared.call.Call.{Call}
+use Rattle.rules.specs.declared.call.Call.the-variants.{Find}
 use Rattle.rules.specs.declared.table.Owner.the-variants.{Nobody, Tenant}
-use Rattle.rules.specs.Numbers.{MAX-REDIRECTS}
-use Rattle.rules.specs.Lent.{Table, table, rowAt}
-use Rattle.rules.specs.Walk.{Path, broken, to, path, steps}
+use Rattle.rules.specs.Numbers.{DONE}
+use Rattle.rules.specs.Lent.{Rows, Log, Table, table, fresh, rowAt}
+use Rattle.rules.specs.Answer.{found}
+use Rattle.rules.specs.Walk.{to}
 use Rattle.rules.specs.Plan.{walkedOn}
 use Rattle.rules.specs.Step.{step}
 use Rattle.groups.specs.Sums.{Credits, total, size}
-use Rattle.groups.specs.Groups.{Deed}
+use Rattle.groups.specs.Shown.{walkOf, passedBy, rootOf, stepsOf}
 use Rattle.groups.specs.Track.{History, event, Calm}
+use Rattle.groups.specs.Stands.{Lends}
 use Rattle.history.specs.Survival.{surviving}
 use Rattle.history.specs.Account.{Linked, joins, byteSeconds, namings, createdKeys, downFrom}
 
--- ---- the walks of a table
-
--- The walk of the rules, which `find` makes and answers the end of.
-abbrev pub walkOf : Table → ℕ → Path
-walkOf t key = path (t .rows .parents) (t .state .count) MAX-REDIRECTS key
-
-abbrev pub endOf : Path → ℕ
-endOf broken = 0
-endOf (to root passed) = root
-
-abbrev pub passedBy : Path → List ℕ
-passedBy broken = []
-passedBy (to root passed) = passed
-
-abbrev pub rootOf : Table → ℕ → ℕ
-rootOf t key = endOf (walkOf t key)
-
-abbrev pub stepsOf : Table → ℕ → ℕ
-stepsOf t key = steps (passedBy (walkOf t key))
-
--- The table as the walk from a key leaves it.
-abbrev pub afterWalk : Table → ℕ → Table
-afterWalk t key = table (walkedOn (t .rows) (rootOf t key) (passedBy (walkOf t key)) .rows) (t .log) (t .state)
-
--- ---- groups: the keys of one root
+-- ---- groups: the keys of one root, which is where their walks end
 
 abbrev pub Live : Table → ℕ → Type 0
 Live t key = key < t .state .count
@@ -56,6 +34,10 @@ inGroup t r cs = total (rootOf t) r cs
 abbrev pub groupSize : Table → ℕ → ℕ
 groupSize t r = size (rootOf t) (t .state .count) r
 
+-- The table as the walk from a key leaves it.
+abbrev pub afterWalk : Table → ℕ → Table
+afterWalk t key = table (walkedOn (t .rows) (rootOf t key) (passedBy (walkOf t key)) .rows) (t .log) (t .state)
+
 -- No call was answered 8, and none 9.
 abbrev pub Peaceful : History → Type 0
 Peaceful [] = Unit {0}
@@ -64,8 +46,9 @@ Peaceful (e ∷ h) = Calm (e .answer .no) × Peaceful h
 -- ---- the demand
 
 pub record Demand (t : Table) (h : History) : Type 0 where
-  -- Each live key's walk ends, at a root.
+  -- Each live key's walk ends, at a root; and that is the root that `find` answers, with the walk's steps.
   pub ends : (key : ℕ) → Live t key → (walkOf t key ≡ to (rootOf t key) (passedBy (walkOf t key))) × Root t (rootOf t key)
+  pub finds : (key : ℕ) → step t (Find key) .answer .no ≡ DONE → step t (Find key) .answer ≡ found (rootOf t key) (stepsOf t key)
   -- "two live keys share a root exactly when surviving joins link them"
   pub links : (a b : ℕ) → Live t a → Live t b → (rootOf t a ≡ rootOf t b) ↔ Linked (joins (surviving h)) a b
   -- "each root's byte-seconds are the exact sum of the surviving creations and posts on its group's keys"
@@ -95,3 +78,13 @@ turn s c = record { table = step (s .table) c .table; past = event c (step (s .t
 unfoldable pub tell : Story → List Call → Story
 tell s [] = s
 tell s (c ∷ cs) = tell (turn s c) cs
+
+-- "from a fresh table whose lent rows and log hold anything at all"
+abbrev pub begin : Rows → Log → Story
+begin rs l = record { table = table rs l fresh; past = [] }
+
+-- The promise.
+abbrev pub Demand-3 : Type 0
+Demand-3 =
+    (rs : Rows) (l : Log) (rows entries : ℕ) → Lends rs l rows entries → (cs : List Call)
+    → Demand (tell (begin rs l) cs .table) (tell (begin rs l) cs .past)
