@@ -1,6 +1,6 @@
 -- The central law: whatever the call, a table that stands for a history stands for the history with that call and its answer; and the
 -- answer is never BROKEN_TABLE or BAD_STATE.
-use mathlib.Core.Path.{_≡_, refl, sym, ap, _∙_, subst}
+use mathlib.Core.Path.{_≡_, refl, sym, ap, _∙_, subst, subst⁻¹}
 use mathlib.Core.Logic.{_≢_}
 use mathlib.Core.Bool.{Bool, true, false, cond}
 use mathlib.Core.List.{List, [], _∷_, _++_}
@@ -30,7 +30,7 @@ use Rattle.rules.specs.Refusal.{Outcome, outcome, refused, carry, sizesOf, bad}
 use Rattle.rules.proofs.StateLaws.{good-bad}
 use Rattle.rules.specs.Step.{new, live, one, two, resting, rollback, call, step}
 use Rattle.groups.specs.Groups.{Groups, created, step as groupStep, replay}
-use Rattle.groups.specs.Track.{Calm, Event, event, History, Act, idle, moves, takes, undoes, closes, act, deedOf, Saved, Track, noted, track, newer, lastToken, Follows, Orderly}
+use Rattle.groups.specs.Track.{Calm, Event, event, History, Act, idle, moves, takes, undoes, closes, act, deedOf, Saved, Track, restored, noted, track, newer, lastToken, Follows, Orderly}
 use Rattle.groups.specs.Stands.{WideRows, Made, Leads-back, Lends, Stands, Shows}
 use Rattle.groups.proofs.Tools.{cases}
 use Rattle.groups.proofs.RowLaws.{Real, real-owner, wide-put, alike-past}
@@ -297,7 +297,7 @@ module _ {t : Table} {h : History} (S : Stands t h) where
           marks-kept = S .marks-kept;
           open-fits = rw e (omega arith);
           opened = rw e left-open;
-          made = rw e made;
+          made = subst⁻¹ (λ (ys : List Saved). Made (undo (t .rows) es) (inner .keys) (restored (track h .now) ys)) e made;
           back = rw e rest;
           orderly = (rw e (sym serial ∙ q), S .orderly);
           serials = S .serials;

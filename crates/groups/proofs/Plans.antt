@@ -22,7 +22,7 @@ use Rattle.rules.specs.Walk.{steps}
 use Rattle.rules.specs.Write.{Write, redirect, crown, edit, writes}
 use Rattle.rules.specs.Answer.{answer, stepped, found, probed, said}
 use Rattle.rules.specs.Plan.{Plan, plan, Walked, walkedOn, goOn, walk, walkBoth, settle, unite, tooHigh, findOn, unionedOn, joinOn, postOn, probeOn, probeKeyOn, tryProbe}
-use Rattle.groups.specs.Groups.{Groups, Deed, joined, posted, at, hung, united, step, replay, Accepts, Accepted}
+use Rattle.groups.specs.Groups.{Groups, Deed, joined, posted, at, hung, raised, united, step, replay, Accepts, Accepted}
 use Rattle.groups.specs.Track.{Calm, event, Act, idle, moves, takes, undoes, closes, act, deedOf}
 use Rattle.groups.specs.Stands.{up, high, WideRows}
 use Rattle.groups.proofs.Tools.{cases, either}
@@ -63,6 +63,9 @@ module _ {rs : Rows} {room : ℕ} {now : List Deed} {c : Call} where
   planned-cond false f g = g refl
 
 -- ---- a root gets another value, or is hung under another
+
+cond-raised : {A : Type 0} (f : ℕ → A) (x y : ℕ) → cond (ltb x y) (f y) (f (y + 1)) ≡ f (raised x y)
+cond-raised f x y = cases (ltb x y) (λ e. rw e) (λ e. rw e)
 
 module _ {rs : Rows} {g : Groups} {room : ℕ} (H : Holds rs g room) where
   root-rank : (r : ℕ) → r < g .count → g .root r ≡ r → high rs r ≡ g .rank r
@@ -272,8 +275,9 @@ module _ {rs : Rows} {room : ℕ} (now : List Deed) (A : Accepted now) (H : Hold
           let hs : s < g .count = H .whole .within b hb in
           let onto : ℕ → ℕ → ℕ → List Write = λ low top k. redirect low top ∷ crown top k v ∷ [] in
           let by : ℕ → ℕ → List Write = λ x y. cond (ltb y x) (onto s r x) (cond (ltb x y) (onto r s y) (onto r s (y + 1))) in
-          let is : unite (second .rows) r s v ≡ by (g .rank r) (g .rank s) =
-          ap₂ by (root-rank both-hold r hr (H .whole .settled a)) (root-rank both-hold s hs (H .whole .settled b)) in
+          let is : unite (second .rows) r s v ≡ cond (ltb (g .rank s) (g .rank r)) (onto s r (g .rank r)) (onto r s (raised (g .rank r) (g .rank s))) =
+          ap₂ by (root-rank both-hold r hr (H .whole .settled a)) (root-rank both-hold s hs (H .whole .settled b))
+          ∙ ap (cond (ltb (g .rank s) (g .rank r)) (onto s r (g .rank r))) (cond-raised (onto r s) (g .rank r) (g .rank s)) in
           subst⁻¹ (λ (ws : List Write). Holds (writes (second .rows) ws) (united g r s v) room × Inside (g .count) ws) is
           (by-rank (λ (ws : List Write) (g′ : Groups). Holds (writes (second .rows) ws) g′ room × Inside (g .count) ws) (g .rank r) (g .rank s)
           (onto s r) (onto r s) (λ k. hung g s r k v) (λ k. hung g r s k v)

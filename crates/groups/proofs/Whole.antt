@@ -16,7 +16,7 @@ use Rattle.rules.specs.declared.table.Merged.the-variants.{Both}
 use Rattle.rules.specs.Merge.{merge}
 use Rattle.rules.specs.Numbers.{MAX-ROWS, MAX-RANK}
 use Rattle.groups.specs.Sums.{total, ones, size}
-use Rattle.groups.specs.Groups.{Groups, noGroups, Deed, created, joined, posted, at, shift, hung, step, replay, Accepts, Accepted}
+use Rattle.groups.specs.Groups.{Groups, noGroups, Deed, created, joined, posted, at, shift, hung, raised, step, replay, Accepts, Accepted}
 use Rattle.groups.proofs.Tools.{cases, bySame, upTo, either}
 use Rattle.groups.proofs.SumLaws.{at-hit, at-miss, shift-hit, shift-miss, due-hit, total-shift, total-shift-other, size-le}
 
@@ -34,19 +34,21 @@ pub record Ranked (from to k : ℕ) : Type 0 where
   pub stays : to ≤ k
   pub doubles : 2 ^ k ≤ 2 ^ from + 2 ^ to
 
+raised-ranked : (other own : ℕ) → other ≤ own → Ranked other own (raised other own)
+raised-ranked other own h =
+    cases (ltb other own)
+    (λ e. rw e (let l = ltb-true other own e in record { above = l; stays = le-refl own; doubles = omega arith }))
+    (λ e. rw e (let q : other ≡ own = omega (arith, ltb-false other own e) in
+    rw (q, add-one own) (record { above = omega arith; stays = omega arith; doubles = omega arith })))
+
 -- However the choice by rank falls out, in whatever is chosen by it.
 pub by-rank : {A B : Type 0} (P : A → B → Type 0) (ra rb : ℕ) (x y : ℕ → A) (u w : ℕ → B)
     → ((k : ℕ) → Ranked rb ra k → P (x k) (u k)) → ((k : ℕ) → Ranked ra rb k → P (y k) (w k))
-    → P (cond (ltb rb ra) (x ra) (cond (ltb ra rb) (y rb) (y (rb + 1)))) (cond (ltb rb ra) (u ra) (cond (ltb ra rb) (w rb) (w (rb + 1))))
+    → P (cond (ltb rb ra) (x ra) (y (raised ra rb))) (cond (ltb rb ra) (u ra) (w (raised ra rb)))
 by-rank P ra rb x y u w f g =
     cases (ltb rb ra)
     (λ e. rw e (f ra (let h = ltb-true rb ra e in record { above = h; stays = le-refl ra; doubles = omega arith })))
-    (λ e. cases (ltb ra rb)
-    (λ e′. rw (e, e′) (g rb (let h = ltb-true ra rb e′ in record { above = h; stays = le-refl rb; doubles = omega arith })))
-    (λ e′. rw (e, e′) (g (rb + 1) (same (omega (arith, ltb-false rb ra e, ltb-false ra rb e′))))))
-  where
-    same : ra ≡ rb → Ranked ra rb (rb + 1)
-    same q = rw (q, add-one rb) (record { above = omega arith; stays = omega arith; doubles = omega arith })
+    (λ e. rw e (g (raised ra rb) (raised-ranked ra rb (ltb-false rb ra e))))
 
 -- ---- a join that is accepted
 

@@ -44,12 +44,13 @@ hung g low high k v =
     record { count = g .count; root = shift (g .root) low high; rank = at high k (g .rank); value = at high v (g .value) }
 
 -- "Unequal ranks: the lower root redirects to the higher, whose rank stays. Equal ranks: a's root redirects to b's, whose rank
--- grows by 1."
+-- grows by 1." The rank of a root of rank `own` under which one of rank `other`, no higher, is hung:
+abbrev pub raised : ℕ → ℕ → ℕ
+raised other own = cond (ltb other own) own (own + 1)
+
 abbrev pub united : Groups → ℕ → ℕ → Value → Groups
 united g a b v =
-    cond (ltb (g .rank b) (g .rank a)) (hung g b a (g .rank a) v)
-    (cond (ltb (g .rank a) (g .rank b)) (hung g a b (g .rank b) v)
-    (hung g a b (g .rank b + 1) v))
+    cond (ltb (g .rank b) (g .rank a)) (hung g b a (g .rank a) v) (hung g a b (raised (g .rank a) (g .rank b)) v)
 
 -- A merge that fails moves nothing.
 abbrev pub ifBoth : Groups → (Value → Groups) → Merged → Groups
