@@ -9,5 +9,8 @@ pub mod Walks
 pub mod Undoing
 pub mod Logging
 pub mod Plans
+pub mod Kept
+pub mod RowCalls
+pub mod TokenCalls
 pub mod Calls
 pub mod ShownLaws

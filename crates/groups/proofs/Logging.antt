@@ -14,7 +14,7 @@ use Rattle.rules.specs.Lent.{Rows, Log, rowAt, putEntry}
 use Rattle.rules.specs.Write.{Write, place, edit, write, writes, Memory, logged, put, puts}
 use Rattle.rules.specs.Tokens.{undoable, reversed}
 use Rattle.groups.specs.Track.{Saved}
-use Rattle.groups.specs.Stands.{Leads-back, WideLog}
+use Rattle.groups.specs.Stands.{LeadsBack, WideLog}
 use Rattle.groups.proofs.RowLaws.{real-owner, put-back}
 use Rattle.groups.proofs.Walks.{Inside}
 use Rattle.groups.proofs.Undoing.{Known, entry-hit, entry-miss, wide-entry, back-entry}
@@ -23,7 +23,7 @@ use Rattle.groups.proofs.Undoing.{Known, entry-hit, entry-miss, wide-en
 pub record Logged (marks : ℕ → Mark) (entries : ℕ) (l : Log) (used count : ℕ) (rs : Rows) (xs : List Saved) : Type 0 where
   pub wide : WideLog l entries
   pub fits : used ≤ entries
-  pub back : Leads-back l marks used count rs xs
+  pub back : LeadsBack l marks used count rs xs
 
 module _ (marks : ℕ → Mark) (entries : ℕ) where
   -- One entry is logged, if a snapshot is open.

@@ -1,18 +1,24 @@
 -- The central law: the groups that a table shows are those of the deeds that survive of its history, alone and in their order.
 use mathlib.Core.Path.{_≡_, sym, ap, _∙_, subst}
+use mathlib.Core.List.{_∷_, _++_}
 use Prim.Native.Nat.{ℕ, _^_, _≤_, _<_}
+use Rattle.rules.specs.declared.call.Call.{Call}
 use Rattle.rules.specs.Numbers.{MAX-REDIRECTS}
 use Rattle.rules.specs.Lent.{Table}
 use Rattle.rules.specs.Walk.{to, path}
+use Rattle.rules.specs.Step.{step}
 use Rattle.groups.specs.Sums.{Credits, total, ones, size}
 use Rattle.groups.specs.Groups.{Groups, replay}
 use Rattle.groups.specs.Shown.{walkOf, endOf, stepsOf, groupsOf, Same}
-use Rattle.groups.specs.Track.{History, track}
+use Rattle.groups.specs.Track.{History, event, act, deedOf, Track, track}
 use Rattle.groups.specs.Stands.{Stands}
 use Rattle.groups.proofs.SumLaws.{Below, below-ones, total-agree}
 use Rattle.groups.proofs.Forest.{is-root}
 use Rattle.groups.proofs.Walks.{Holds, reaches, log2-bound}
-use Rattle.groups.proofs.Calls.{holds}
+use Rattle.groups.proofs.Plans.{Quiet}
+use Rattle.groups.proofs.Kept.{quiet-noted}
+use Rattle.groups.proofs.RowCalls.{holds}
+use Rattle.groups.proofs.Calls.{keeps}
 
 module _ (t : Table) {g : Groups} {room : ℕ} (H : Holds (t .rows) g room) (counted : g .count ≡ t .state .count) where
   pub walk-reaches : (key : ℕ) (h : key < g .count) → walkOf t key ≡ to (g .root key) (reaches H key h .passed)
@@ -41,3 +47,12 @@ module _ {g g′ : Groups} (S : Same g g′) where
 
 pub shown : (t : Table) (h : History) → Stands t h → Same (groupsOf t) (replay (track h .now))
 shown t h S = same-groups t (holds S) (S .made .counted)
+
+-- A call that is answered DONE and creates, joins or posts moves the groups by that deed's own step. One that is refused, or only
+-- looks, has no deed and leaves them.
+pub moved : (t : Table) (h : History) → Stands t h → (c : Call) → Quiet (act (event c (step t c .answer)))
+    → Same (groupsOf (step t c .table)) (replay (deedOf (act (event c (step t c .answer))) ++ track h .now))
+unfolding track
+moved t h S c q =
+    rw (← ap (λ (g : Track). g .now) (quiet-noted (act (event c (step t c .answer))) (track h) q))
+    (shown (step t c .table) (event c (step t c .answer) ∷ h) (keeps S c .stands))

@@ -18,7 +18,7 @@ use Rattle.rules.specs.Lent.{Rows, Log, kindOf, keyOf, oldOf, putRow, entryAt, 
 use Rattle.rules.specs.Tokens.{newestFirst, undoable, reversed, undo}
 use Rattle.groups.specs.Groups.{Deed}
 use Rattle.groups.specs.Track.{Saved}
-use Rattle.groups.specs.Stands.{Made, Leads-back, WideRows, WideLog}
+use Rattle.groups.specs.Stands.{Made, LeadsBack, WideRows, WideLog}
 use Rattle.groups.proofs.Tools.{bySame}
 use Rattle.groups.proofs.RowLaws.{Real, row-hit, row-miss, wide-put, Alike, alike-put}
 use Rattle.groups.proofs.Forest.{shows-alike}
@@ -133,7 +133,7 @@ made-alike {rs} rs′ {count} {ds} a M =
 
 -- In a log that is the same up to its used length.
 pub back-log : (l l′ : Log) (marks : ℕ → Mark) (used count : ℕ) (rs : Rows) (xs : List Saved) → ((j : ℕ) → j < used → entryAt l′ j ≡ entryAt l j)
-    → Leads-back l marks used count rs xs → Leads-back l′ marks used count rs xs
+    → LeadsBack l marks used count rs xs → LeadsBack l′ marks used count rs xs
 back-log l l′ marks used count rs [] same b = b
 back-log l l′ marks used count rs (x ∷ xs) same b =
     let (token, len, able, made, rest) = b in
@@ -143,7 +143,7 @@ back-log l l′ marks used count rs (x ∷ xs) same b =
 
 -- Under marks that are the same for the snapshots that are open.
 pub back-marks : (l : Log) (marks marks′ : ℕ → Mark) (used count : ℕ) (rs : Rows) (xs : List Saved) → ((k : ℕ) → k < length xs → marks′ k ≡ marks k)
-    → Leads-back l marks used count rs xs → Leads-back l marks′ used count rs xs
+    → LeadsBack l marks used count rs xs → LeadsBack l marks′ used count rs xs
 back-marks l marks marks′ used count rs [] same b = b
 back-marks l marks marks′ used count rs (x ∷ xs) same b =
     let (token, len, able, made, rest) = b in
@@ -153,7 +153,7 @@ back-marks l marks marks′ used count rs (x ∷ xs) same b =
 
 -- From rows that are the same below the count.
 pub back-alike : (room : ℕ) (l : Log) (marks : ℕ → Mark) (used count : ℕ) (rs rs′ : Rows) (xs : List Saved) → count ≤ room → WideRows rs room → WideRows rs′ room → Alike count rs rs′
-    → Leads-back l marks used count rs xs → Leads-back l marks used count rs′ xs
+    → LeadsBack l marks used count rs xs → LeadsBack l marks used count rs′ xs
 back-alike room l marks used count rs rs′ [] f w w′ a b = b
 back-alike room l marks used count rs rs′ (x ∷ xs) f w w′ a b =
     let (token, len, able, made, rest) = b in
@@ -171,7 +171,7 @@ back-alike room l marks used count rs rs′ (x ∷ xs) f w w′ a b =
 pub back-entry : (l l′ : Log) (marks : ℕ → Mark) (used used′ count count′ : ℕ) (rs rs′ : Rows) (x : Saved) (xs : List Saved) (e : UndoLog) → used′ ≡ used + 1
     → ((j : ℕ) → j < used → entryAt l′ j ≡ entryAt l j) → entryAt l′ used ≡ e
     → reversed rs′ e ≡ rs → ((keys : ℕ) (es : List UndoLog) → undoable keys count es ≡ true → undoable keys count′ (e ∷ es) ≡ true)
-    → Leads-back l marks used count rs (x ∷ xs) → Leads-back l′ marks used′ count′ rs′ (x ∷ xs)
+    → LeadsBack l marks used count rs (x ∷ xs) → LeadsBack l′ marks used′ count′ rs′ (x ∷ xs)
 unfolding undo
 back-entry l l′ marks used used′ count count′ rs rs′ x xs e u same hit un able′ b =
     let (token, len, able, made, rest) = b in
@@ -183,7 +183,7 @@ back-entry l l′ marks used used′ count count′ rs rs′ x xs e u same hit u
 
 -- The innermost mark but one leads back over the entries of both.
 pub back-commit : (l : Log) (marks : ℕ → Mark) (used count : ℕ) (rs : Rows) (x y : Saved) (zs : List Saved)
-    → Leads-back l marks used count rs (x ∷ y ∷ zs) → Leads-back l marks used count rs (y ∷ zs)
+    → LeadsBack l marks used count rs (x ∷ y ∷ zs) → LeadsBack l marks used count rs (y ∷ zs)
 back-commit l marks used count rs x y zs b =
     let (token, len, able, made, rest) = b in
     let (token′, len′, able′, made′, rest′) = rest in
@@ -198,7 +198,7 @@ back-commit l marks used count rs x y zs b =
     rw (q, undo-append rs young old) (token′, omega arith, undoable-append (m′ .keys) (m .keys) count young old able able′, made′, rest′)
 
 -- No open mark is past the used log or the count.
-pub back-fits : (l : Log) (marks : ℕ → Mark) (used count : ℕ) (rs : Rows) (xs : List Saved) → Leads-back l marks used count rs xs
+pub back-fits : (l : Log) (marks : ℕ → Mark) (used count : ℕ) (rs : Rows) (xs : List Saved) → LeadsBack l marks used count rs xs
     → (k : ℕ) → k < length xs → (marks k .«log_len» ≤ used) × (marks k .keys ≤ count)
 back-fits l marks used count rs [] b k h = absurd (omega arith)
 back-fits l marks used count rs (x ∷ xs) b k h =

@@ -37,9 +37,9 @@ pub record Ranked (from to k : ℕ) : Type 0 where
 raised-ranked : (other own : ℕ) → other ≤ own → Ranked other own (raised other own)
 raised-ranked other own h =
     cases (ltb other own)
-      (λ e. rw e (let l = ltb-true other own e in record { above = l; stays = le-refl own; doubles = omega arith }))
-      (λ e. let q : other ≡ own = omega (arith, ltb-false other own e) in
-        rw e (record { above = omega arith; stays = omega arith; doubles = rw (q, add-one own) (omega arith) }))
+    (λ e. rw e (let l = ltb-true other own e in record { above = l; stays = le-refl own; doubles = omega arith }))
+    (λ e. let q : other ≡ own = omega (arith, ltb-false other own e) in
+    rw e (record { above = omega arith; stays = omega arith; doubles = rw (q, add-one own) (omega arith) }))
 
 -- However the choice by rank falls out, in whatever is chosen by it.
 pub by-rank : {A B : Type 0} (P : A → B → Type 0) (ra rb : ℕ) (x y : ℕ → A) (u w : ℕ → B)

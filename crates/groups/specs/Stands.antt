@@ -44,13 +44,13 @@ pub record Made (rs : Rows) (count : ℕ) (ds : List Deed) : Type 0 where
 
 -- Undoing the entries since the innermost mark gives rows that show what had survived as the snapshot was taken; and so on outwards.
 -- With no snapshot open nothing is logged.
-abbrev pub Leads-back : Log → (ℕ → Mark) → ℕ → ℕ → Rows → List Saved → Type 0
-Leads-back l marks used count rs [] = used ≡ 0
-Leads-back l marks used count rs (x ∷ xs) =
+abbrev pub LeadsBack : Log → (ℕ → Mark) → ℕ → ℕ → Rows → List Saved → Type 0
+LeadsBack l marks used count rs [] = used ≡ 0
+LeadsBack l marks used count rs (x ∷ xs) =
     let m = marks (length xs) in
     let es = newestFirst l (m .«log_len») (used - m .«log_len») in
     (m .serial ≡ x .token) × (m .«log_len» ≤ used) × (undoable (m .keys) count es ≡ true)
-    × Made (undo rs es) (m .keys) (x .deeds) × Leads-back l marks (m .«log_len») (m .keys) (undo rs es) xs
+    × Made (undo rs es) (m .keys) (x .deeds) × LeadsBack l marks (m .«log_len») (m .keys) (undo rs es) xs
 
 -- ---- what is lent
 
@@ -79,6 +79,6 @@ pub record Stands (t : Table) (h : History) : Type 0 where
   pub open-fits : length (track h .saved) ≤ MAX-OPEN
   pub opened : t .state .«open» ≡ length (track h .saved)
   pub made : Made (t .rows) (t .state .count) (track h .now)
-  pub back : Leads-back (t .log) (markAt (t .state)) (t .state .used) (t .state .count) (t .rows) (track h .saved)
+  pub back : LeadsBack (t .log) (markAt (t .state)) (t .state .used) (t .state .count) (t .rows) (track h .saved)
   pub orderly : Orderly h
   pub serials : lastToken h ≤ t .state .last

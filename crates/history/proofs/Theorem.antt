@@ -27,7 +27,8 @@ use Rattle.groups.specs.Track.{History}
 use Rattle.groups.specs.Stands.{Made, Stands}
 use Rattle.groups.proofs.Walks.{Holds, reaches}
 use Rattle.groups.proofs.Plans.{walk-holds}
-use Rattle.groups.proofs.Calls.{holds, keeps, fresh-stands}
+use Rattle.groups.proofs.RowCalls.{holds}
+use Rattle.groups.proofs.Calls.{keeps, fresh-stands}
 use Rattle.groups.proofs.ShownLaws.{walk-reaches, same-groups, steps-bound, same-total, same-size}
 use Rattle.history.specs.Survival.{surviving}
 use Rattle.history.specs.Account.{byteSeconds, namedBy, namings, downFrom}
@@ -119,9 +120,10 @@ unfolding tell
 told-stands [] s S p = (S, p)
 told-stands (c ∷ cs) s S p = let K = keeps S c in told-stands cs (turn s c) (K .stands) (K .peace, p)
 
+pub demand-from : (s : Story) → Stands (s .table) (s .past) → Peaceful (s .past) → (cs : List Call) → Demand (tell s cs .table) (tell s cs .past)
+demand-from s S p cs = let (S′, p′) = told-stands cs s S p in stands-demand (tell s cs .table) (tell s cs .past) S′ p′
+
 -- ---- the promise
 
 pub demand-3 : Demand-3
-demand-3 rs l rows entries lent cs =
-    let (S, peace) = told-stands cs (begin rs l) (fresh-stands rs l rows entries lent) tt in
-    stands-demand (tell (begin rs l) cs .table) (tell (begin rs l) cs .past) S peace
+demand-3 rs l rows entries lent = demand-from (begin rs l) (fresh-stands rs l rows entries lent) tt
