@@ -1,0 +1,6 @@
+-- What the proofs of several functions use.
+pub mod AfterLaws
+pub mod OffLaws
+pub mod PathLaws
+pub mod RewriteLaws
+pub mod WalkLaws

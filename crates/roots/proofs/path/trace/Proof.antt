@@ -1,0 +1,51 @@
+use mathlib.Core.Path.{_≡_, refl, ap, sym, _∙_}
+use mathlib.Core.List.{List, [], _∷_, _++_}
+use Prim.Native.Nat.{ℕ, zero, suc, _+_, _-_, _≤_, _<_}
+use native.Mathlib.Omega.{arith}
+use borrow.Author.Needs.{needs}
+use lib.ListN.{length, getD, take, set, length-set}
+use lib.Seq.{take-suc-set, getD-set-same, take-set-le}
+use Rattle.rules.specs.Walk.{path}
+use Rattle.roots.proofs.PathLaws.{along, trace-root, trace-out, trace-spent, trace-more}
+use Rattle.roots.proofs.path.trace.Statement.{statement}
+use Rattle.roots.proofs.path.trace.Tie as tie
+
+abbrev Inv-loop : tie.InvT-loop
+Inv-loop parents count key nodes₀ steps₀ at₀ nodes steps at =
+    (steps ≤ 16) × (length nodes ≡ 17) × (path parents count 16 key ≡ along (take steps nodes) (path parents count (16 - steps) at))
+
+abbrev μ-loop : tie.MeasureT-loop
+μ-loop parents count key nodes₀ steps₀ at₀ nodes steps at = 16 - steps
+
+returns : tie.Need-returns Inv-loop μ-loop
+returns c =
+    let k = c .before .before .before in
+    let a = k .before .args in
+    (trace-root (a .parents .now) (k .loop .nodes) (a .count) (a .key) (k .loop .at) (k .loop .steps) (k .loop .inv .0) (k .loop .inv .1) (k .loop .inv .2) (omega arith) (c .if1 .taken), record { steps = omega arith; size = simp length-set (omega arith) })
+
+returns-2 : tie.Need-returns-2 Inv-loop μ-loop
+returns-2 c =
+    let k = c .before .before .before .before in
+    let a = k .before .args in
+    (trace-spent (a .parents .now) (k .loop .nodes) (a .count) (a .key) (k .loop .at) (k .loop .steps) (k .loop .inv .0) (k .loop .inv .1) (k .loop .inv .2) (c .if2 .taken) (omega arith) (c .before .if1 .left), record { steps = omega arith; size = simp length-set (omega arith) })
+
+loop-again : tie.Need-loop-again Inv-loop μ-loop
+loop-again c =
+    let k = c .before .before .before .before in
+    let a = k .before .args in (
+      search needs,
+      simp length-set (omega arith),
+      trace-more (a .parents .now) (k .loop .nodes) (a .count) (a .key) (k .loop .at) (k .loop .steps) (k .loop .inv .0) (k .loop .inv .1) (k .loop .inv .2) (c .if2 .left) (omega arith) (c .before .if1 .left),
+    )
+
+returns-3 : tie.Need-returns-3 Inv-loop μ-loop
+returns-3 c =
+    let k = c .before in
+    let a = k .before .args in
+    (trace-out (a .parents .now) (k .loop .nodes) (a .count) (a .key) (k .loop .at) (k .loop .steps) (k .loop .inv .0) (k .loop .inv .1) (k .loop .inv .2) (omega arith), omega arith)
+
+pub trace-spec : {M : Type 1} → statement M
+trace-spec =
+    tie.close
+    (tie.spec Inv-loop μ-loop (search needs) (search needs) (search needs) (search needs) (search needs) (search needs) returns returns-2
+    (search needs) (search needs) loop-again returns-3)

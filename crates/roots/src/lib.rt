@@ -1,0 +1,3 @@
+// Walks to a root: traced without a write, and compressed by the pair of ena's `unify`.
+pub mod get;
+pub mod path;
