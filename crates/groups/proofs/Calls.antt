@@ -33,16 +33,21 @@ module _ {t : Table} {h : History} (S : Stands t h) where
   keeps-call (Unioned a b) = keeps-two S (Unioned a b) a b unionedOn (unioned-planned (track h .now) (S .made .accepted) (holds S) a b)
   keeps-call (Join a b) = keeps-two S (Join a b) a b joinOn (join-planned (track h .now) (S .made .accepted) (holds S) a b)
   keeps-call (Post key owner amount) =
-      keeps-one S (Post key owner amount) key (postOn (value (ownerOf owner) amount)) (post-planned (track h .now) (S .made .accepted) (holds S) key owner amount)
+      keeps-one S (Post key owner amount) key (postOn (value (ownerOf owner) amount))
+      (post-planned (track h .now) (S .made .accepted) (holds S) key owner amount)
   keeps-call (Probe key) = keeps-one S (Probe key) key probeOn (probe-planned (track h .now) (S .made .accepted) (holds S) key)
-  keeps-call (ProbeKey key) = keeps-one S (ProbeKey key) key probeKeyOn (probe-key-planned (track h .now) (S .made .accepted) (holds S) key)
-  keeps-call (TryProbe key) = keeps-live S (TryProbe key) key (tryProbe (t .rows) key) (λ _. try-planned (track h .now) (S .made .accepted) (holds S) key)
+  keeps-call (ProbeKey key) =
+      keeps-one S (ProbeKey key) key probeKeyOn (probe-key-planned (track h .now) (S .made .accepted) (holds S) key)
+  keeps-call (TryProbe key) =
+      keeps-live S (TryProbe key) key (tryProbe (t .rows) key) (λ _. try-planned (track h .now) (S .made .accepted) (holds S) key)
   keeps-call Snapshot = keeps-snapshot S
   keeps-call (Rollback token) = keeps-rollback S token (track h .saved) refl
   keeps-call (Commit token) = keeps-commit S token (track h .saved) refl
   keeps-call (Keys token) = keeps-ask S (Keys token) token (λ m. range (m .keys) (t .state .count)) (λ m. refl) (λ m. calm 0 refl refl)
-  keeps-call (Actions token) = keeps-ask S (Actions token) token (λ m. range (m .«log_len») (t .state .used)) (λ m. refl) (λ m. calm 0 refl refl)
-  keeps-call (Changes token) = keeps-ask S (Changes token) token (λ m. said (ltb (m .«log_len») (t .state .used)) 0) (λ m. refl) (λ m. calm 0 refl refl)
+  keeps-call (Actions token) =
+      keeps-ask S (Actions token) token (λ m. range (m .«log_len») (t .state .used)) (λ m. refl) (λ m. calm 0 refl refl)
+  keeps-call (Changes token) =
+      keeps-ask S (Changes token) token (λ m. said (ltb (m .«log_len») (t .state .used)) 0) (λ m. refl) (λ m. calm 0 refl refl)
 
   -- "nothing open and used not 0" is not so.
   nothing-used : (ys : List Saved) → track h .saved ≡ ys → t .state .«open» ≡ 0 → t .state .used ≡ 0

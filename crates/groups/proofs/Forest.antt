@@ -41,7 +41,8 @@ abbrev pub Wrote : Rows → Rows → ℕ → Row → Type 0
 Wrote rs rs′ x r = (rowAt rs′ x ≡ r) × ((j : ℕ) → j ≢ x → rowAt rs′ j ≡ rowAt rs j)
 
 -- A part of a row that the write keeps is kept in all of them.
-wrote-keeps : {A : Type 0} (f : Row → A) (rs rs′ : Rows) (x : ℕ) (r : Row) → Wrote rs rs′ x r → f r ≡ f (rowAt rs x) → (j : ℕ) → f (rowAt rs′ j) ≡ f (rowAt rs j)
+wrote-keeps : {A : Type 0} (f : Row → A) (rs rs′ : Rows) (x : ℕ) (r : Row) → Wrote rs rs′ x r → f r ≡ f (rowAt rs x) → (j : ℕ)
+    → f (rowAt rs′ j) ≡ f (rowAt rs j)
 wrote-keeps f rs rs′ x r w e j =
     bySame j x
     (λ q. subst⁻¹ (λ (z : ℕ). f (rowAt rs′ z) ≡ f (rowAt rs z)) q (ap f (w .0) ∙ e))
@@ -130,7 +131,14 @@ module _ {rs : Rows} {g : Groups} (S : Shows rs g) where
           (λ d. subst⁻¹ (λ (z : ℕ). z < g .count) (else-up i d) (S .inside i h));
       rises = λ i h m. bySame i x
           (λ e. subst⁻¹ (λ (z : ℕ). high rs′ z < high rs′ (up rs′ z)) e (subst⁻¹ (λ (z : ℕ). high rs′ x < high rs′ z) moved
-          (omega (arith, same-rank x, same-rank (g .root x), S .rises x hx no-root, rank-up (leads-next (S .leads x hx)) (S .inside x hx)))))
+          (omega (
+            arith,
+            same-rank x,
+            same-rank (g .root x),
+            S .rises x hx no-root,
+            rank-up (leads-next (S .leads x hx))
+                (S .inside x hx),
+          ))))
           (λ d. subst⁻¹ (λ (z : ℕ). high rs′ i < high rs′ z) (else-up i d)
           (omega (arith, same-rank i, same-rank (up rs i), S .rises i h (λ q. m (else-up i d ∙ q)))));
       leads = λ i h. again (S .leads i h) h;
@@ -182,12 +190,14 @@ module _ {rs : Rows} {g : Groups} (S : Shows rs g) where
     joined-leads : {i q : ℕ} → Leads (up rs) i q → i < g .count → Leads (up rs′) i (shift (λ z. z) low top q)
     joined-leads {i} {q} (here e d) h =
         bySame i low
-        (λ m. subst⁻¹ (λ (z : ℕ). Leads (up rs′) i z) (shift-hit (λ z. z) low top q (sym d ∙ m)) (subst⁻¹ (λ (z : ℕ). Leads (up rs′) z top) m low-turned))
+        (λ m. subst⁻¹ (λ (z : ℕ). Leads (up rs′) i z) (shift-hit (λ z. z) low top q (sym d ∙ m))
+        (subst⁻¹ (λ (z : ℕ). Leads (up rs′) z top) m low-turned))
         (λ m. subst⁻¹ (λ (z : ℕ). Leads (up rs′) i z) (shift-miss (λ z. z) low top q (λ t. m (d ∙ t))) (here (up-else i m ∙ e) d))
     joined-leads {i} {q} (along l) h =
         bySame i low
         (λ m. subst⁻¹ (λ (z : ℕ). Leads (up rs′) i z)
-        (shift-hit (λ z. z) low top q (sym (leads-fixed (is-root low (H .low-live) (H .low-root)) (subst (λ (z : ℕ). Leads (up rs) z q) m (along l)))))
+        (shift-hit (λ z. z) low top q (sym (leads-fixed (is-root low (H .low-live) (H .low-root))
+        (subst (λ (z : ℕ). Leads (up rs) z q) m (along l)))))
         (subst⁻¹ (λ (z : ℕ). Leads (up rs′) z top) m low-turned))
         (λ m. along (subst⁻¹ (λ (z : ℕ). Leads (up rs′) z (shift (λ z. z) low top q)) (up-else i m) (joined-leads l (S .inside i h))))
 
@@ -214,7 +224,8 @@ module _ {rs : Rows} {g : Groups} (S : Shows rs g) where
           (λ m. subst⁻¹ (λ (z : ℕ). high rs′ z ≡ at top k (g .rank) z) m (rank-top ∙ sym (at-hit top k (g .rank) top refl)))
           (λ d. rank-else q d ∙ S .ranks q h (old-root q e) ∙ sym (at-miss top k (g .rank) q d));
       values = λ q h e. bySame q top
-          (λ m. subst⁻¹ (λ (z : ℕ). valueOf (rowAt rs′ z) ≡ at top v (g .value) z) m (ap valueOf wt ∙ sym (at-hit top v (g .value) top refl)))
+          (λ m. subst⁻¹ (λ (z : ℕ). valueOf (rowAt rs′ z) ≡ at top v (g .value) z) m
+          (ap valueOf wt ∙ sym (at-hit top v (g .value) top refl)))
           (λ d. ap valueOf (rest q (not-low q e) d) ∙ S .values q h (old-root q e) ∙ sym (at-miss top v (g .value) q d));
     }
 
@@ -228,11 +239,14 @@ module _ {rs : Rows} {g : Groups} (S : Shows rs g) where
         let same : up rs′ ≡ up rs = fun-ext pa in
         record {
           inside = λ i h. subst⁻¹ (λ (z : ℕ). z < g .count) (pa i) (S .inside i h);
-          rises = λ i h d. subst⁻¹ (λ (z : ℕ). high rs′ i < high rs′ z) (pa i) (omega (arith, ra i, ra (up rs i), S .rises i h (λ e. d (pa i ∙ e))));
+          rises =
+              λ i h d. subst⁻¹ (λ (z : ℕ). high rs′ i < high rs′ z) (pa i)
+              (omega (arith, ra i, ra (up rs i), S .rises i h (λ e. d (pa i ∙ e))));
           leads = λ i h. subst⁻¹ (λ (p : ℕ → ℕ). Leads p i (g .root i)) same (S .leads i h);
           ranks = λ q h e. ra q ∙ S .ranks q h (sym (pa q) ∙ e);
           values = λ q h e. bySame q r
-              (λ m. subst⁻¹ (λ (z : ℕ). valueOf (rowAt rs′ z) ≡ at r v (g .value) z) m (ap valueOf (w .0) ∙ sym (at-hit r v (g .value) r refl)))
+              (λ m. subst⁻¹ (λ (z : ℕ). valueOf (rowAt rs′ z) ≡ at r v (g .value) z) m
+              (ap valueOf (w .0) ∙ sym (at-hit r v (g .value) r refl)))
               (λ d. ap valueOf (w .1 q d) ∙ S .values q h (sym (pa q) ∙ e) ∙ sym (at-miss r v (g .value) q d));
         }
 
@@ -255,10 +269,12 @@ module _ {rs : Rows} {g : Groups} (S : Shows rs g) where
               (λ e. subst⁻¹ (λ (z : ℕ). Leads (up rs′) z (g .root z)) e (here own (sym (W .outside n (le-refl n)))))
               (λ h′. A .leads i h′);
           ranks = λ i h e. upTo n i h
-              (λ m. subst⁻¹ (λ (z : ℕ). high rs′ z ≡ at n 0 (g .rank) z) m (ap (λ (z : Row). z .rank) (w .0) ∙ sym (at-hit n 0 (g .rank) n refl)))
+              (λ m. subst⁻¹ (λ (z : ℕ). high rs′ z ≡ at n 0 (g .rank) z) m
+              (ap (λ (z : Row). z .rank) (w .0) ∙ sym (at-hit n 0 (g .rank) n refl)))
               (λ h′. A .ranks i h′ e ∙ sym (at-miss n 0 (g .rank) i (not-n i h′)));
           values = λ i h e. upTo n i h
-              (λ m. subst⁻¹ (λ (z : ℕ). valueOf (rowAt rs′ z) ≡ at n v (g .value) z) m (ap valueOf (w .0) ∙ sym (at-hit n v (g .value) n refl)))
+              (λ m. subst⁻¹ (λ (z : ℕ). valueOf (rowAt rs′ z) ≡ at n v (g .value) z) m
+              (ap valueOf (w .0) ∙ sym (at-hit n v (g .value) n refl)))
               (λ h′. A .values i h′ e ∙ sym (at-miss n v (g .value) i (not-n i h′)));
         }
 

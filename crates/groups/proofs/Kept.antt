@@ -19,7 +19,8 @@ pub record Keeps (h : History) (c : Call) (o : Outcome) : Type 0 where
   pub stands : Stands (o .table) (event c (o .answer) ∷ h)
   pub peace : Calm (o .answer .no)
 
-pub keeps-cond : {h : History} {c : Call} (b : Bool) {x y : Outcome} → (b ≡ true → Keeps h c x) → (b ≡ false → Keeps h c y) → Keeps h c (cond b x y)
+pub keeps-cond : {h : History} {c : Call} (b : Bool) {x y : Outcome} → (b ≡ true → Keeps h c x) → (b ≡ false → Keeps h c y)
+    → Keeps h c (cond b x y)
 keeps-cond true f g = f refl
 keeps-cond false f g = g refl
 
@@ -53,7 +54,8 @@ module _ {t : Table} {h : History} (S : Stands t h) where
       → Stands (table rs l (counting (t .state) count used (t .state .«open»))) (e ∷ h)
   unfolding track lastToken Orderly
   stands-on e rs l count used q w f L M =
-      let n : noted (track h) (act e) ≡ record { now = deedOf (act e) ++ track h .now; saved = track h .saved } = quiet-noted (act e) (track h) q in
+      let n : noted (track h) (act e) ≡ record { now = deedOf (act e) ++ track h .now; saved = track h .saved } =
+      quiet-noted (act e) (track h) q in
       record {
         room = S .room;
         log-room = S .log-room;
@@ -75,7 +77,9 @@ module _ {t : Table} {h : History} (S : Stands t h) where
   -- An answer that moves nothing.
   pub keeps-idle : (c : Call) (a : Answer) → act (event c a) ≡ idle → Calm (a .no) → Keeps h c (outcome a t)
   keeps-idle c a e z = record {
-    stands = stands-on (event c a) (t .rows) (t .log) (t .state .count) (t .state .used) (rw e tt) (S .lends .row-parts) (S .fits) as-logged (rw e (S .made));
+    stands =
+        stands-on (event c a) (t .rows) (t .log) (t .state .count) (t .state .used) (rw e tt) (S .lends .row-parts) (S .fits) as-logged
+        (rw e (S .made));
     peace = z;
   }
 

@@ -27,7 +27,8 @@ pub record Logged (marks : ℕ → Mark) (entries : ℕ) (l : Log) (used count :
 
 module _ (marks : ℕ → Mark) (entries : ℕ) where
   -- One entry is logged, if a snapshot is open.
-  pub log-one : (m : Memory) (count count′ : ℕ) (rs rs′ : Rows) (xs : List Saved) (e : UndoLog) → m .opened ≡ length xs → (m .opened ≢ 0 → m .used + 1 ≤ entries) → Known e
+  pub log-one : (m : Memory) (count count′ : ℕ) (rs rs′ : Rows) (xs : List Saved) (e : UndoLog) → m .opened ≡ length xs
+      → (m .opened ≢ 0 → m .used + 1 ≤ entries) → Known e
       → reversed rs′ e ≡ rs → ((keys : ℕ) (es : List UndoLog) → undoable keys count es ≡ true → undoable keys count′ (e ∷ es) ≡ true)
       → Logged marks entries (m .log) (m .used) count rs xs → Logged marks entries (logged e m .log) (logged e m .used) count′ rs′ xs
   log-one m count count′ rs rs′ [] e o free k un able L =
@@ -39,12 +40,15 @@ module _ (marks : ℕ → Mark) (entries : ℕ) where
         wide = wide-entry (m .log) entries (m .used) e (L .wide);
         fits = room;
         back = back-entry (m .log) (putEntry (m .log) (m .used) e) marks (m .used) (m .used + 1) count count′ rs rs′ x xs e refl
-            (λ j h. entry-miss (m .log) (m .used) j e (λ z. omega arith)) (entry-hit (m .log) entries (m .used) (L .wide) (omega arith) e k) un able (L .back);
+            (λ j h. entry-miss (m .log) (m .used) j e (λ z. omega arith))
+            (entry-hit (m .log) entries (m .used) (L .wide) (omega arith) e k) un able (L .back);
       })
 
   -- A row is written, its old row logged.
-  log-put : (m : Memory) (count : ℕ) (xs : List Saved) (w : Write) → m .opened ≡ length xs → (m .opened ≢ 0 → m .used + 1 ≤ entries) → place w < count
-      → Logged marks entries (m .log) (m .used) count (m .rows) xs → Logged marks entries (put m w .log) (put m w .used) count (put m w .rows) xs
+  log-put : (m : Memory) (count : ℕ) (xs : List Saved) (w : Write) → m .opened ≡ length xs → (m .opened ≢ 0 → m .used + 1 ≤ entries)
+      → place w < count
+      → Logged marks entries (m .log) (m .used) count (m .rows) xs
+      → Logged marks entries (put m w .log) (put m w .used) count (put m w .rows) xs
   unfolding undoable
   log-put m count xs w o free h L =
       let rs : Rows = m .rows in
@@ -53,8 +57,10 @@ module _ (marks : ℕ → Mark) (entries : ℕ) where
       (put-back rs i (edit w (rowAt rs i)))
       (λ keys es p. rw (lt-ltb i count h) p) L
 
-  pub log-puts : (ws : List Write) (m : Memory) (count : ℕ) (xs : List Saved) → m .opened ≡ length xs → (m .opened ≢ 0 → m .used + length ws ≤ entries) → Inside count ws
-      → Logged marks entries (m .log) (m .used) count (m .rows) xs → Logged marks entries (puts m ws .log) (puts m ws .used) count (puts m ws .rows) xs
+  pub log-puts : (ws : List Write) (m : Memory) (count : ℕ) (xs : List Saved) → m .opened ≡ length xs
+      → (m .opened ≢ 0 → m .used + length ws ≤ entries) → Inside count ws
+      → Logged marks entries (m .log) (m .used) count (m .rows) xs
+      → Logged marks entries (puts m ws .log) (puts m ws .used) count (puts m ws .rows) xs
   unfolding puts
   log-puts [] m count xs o free i L = L
   log-puts (w ∷ ws) m count xs o free i L =

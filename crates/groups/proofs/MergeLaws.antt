@@ -35,17 +35,29 @@ summed-is o n x e = cases (ltb MAX-U64 n) (λ q. absurd (no q)) (λ q. got q)
 owned : (o p : Owner) (n : ℕ) (x : Value) → mergeOwned o p n ≡ Both x → Sum o p n x
 owned Nobody p n x e =
     let q = summed-is p n x e in
-    record { adds = ap (λ (v : Value). v .amount) q; names = λ k. rw q (λ y. inr y, λ y. elim y [ inl z ↦ absurd (nobody k z) | inr z ↦ z ]) }
+    record {
+      adds = ap (λ (v : Value). v .amount) q;
+      names = λ k. rw q
+          (λ y. inr y, λ y. elim y [ inl z ↦ absurd (nobody k z) | inr z ↦ z ]);
+    }
 owned (Tenant a) Nobody n x e =
     let q = summed-is (Tenant a) n x e in
-    record { adds = ap (λ (v : Value). v .amount) q; names = λ k. rw q (λ y. inl y, λ y. elim y [ inl z ↦ z | inr z ↦ absurd (nobody k z) ]) }
+    record {
+      adds = ap (λ (v : Value). v .amount) q;
+      names = λ k. rw q
+          (λ y. inl y, λ y. elim y [ inl z ↦ z | inr z ↦ absurd (nobody k z) ]);
+    }
 owned (Tenant a) (Tenant b) n x e = cases (eqb a b) (λ t. both t) (λ t. absurd (clashed t))
   where
     both : eqb a b ≡ true → Sum (Tenant a) (Tenant b) n x
     both t =
         let f : summed (Tenant a) n ≡ Both x = rw t at e in
         let q = summed-is (Tenant a) n x f in
-        record { adds = ap (λ (v : Value). v .amount) q; names = λ k. rw q (λ y. inl y, λ y. elim y [ inl z ↦ z | inr z ↦ ap Tenant (eqb-true a b t) ∙ z ]) }
+        record {
+          adds = ap (λ (v : Value). v .amount) q;
+          names = λ k. rw q
+              (λ y. inl y, λ y. elim y [ inl z ↦ z | inr z ↦ ap Tenant (eqb-true a b t) ∙ z ]);
+        }
 
     clashed : eqb a b ≡ false → ⊥
     clashed t = let f : Clash ≡ Both x = rw t at e in let z : _≡_ {A = ℕ} 0 1 = cc in omega arith

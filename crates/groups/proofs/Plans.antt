@@ -58,7 +58,8 @@ pub record Planned (rs : Rows) (room : ℕ) (now : List Deed) (c : Call) (p : Pl
   pub peace : Calm (p .answer .no)
 
 module _ {rs : Rows} {room : ℕ} {now : List Deed} {c : Call} where
-  pub planned-cond : (b : Bool) {x y : Plan} → (b ≡ true → Planned rs room now c x) → (b ≡ false → Planned rs room now c y) → Planned rs room now c (cond b x y)
+  pub planned-cond : (b : Bool) {x y : Plan} → (b ≡ true → Planned rs room now c x) → (b ≡ false → Planned rs room now c y)
+      → Planned rs room now c (cond b x y)
   planned-cond true f g = f refl
   planned-cond false f g = g refl
 
@@ -103,7 +104,8 @@ module _ {rs : Rows} {g : Groups} {room : ℕ} (H : Holds rs g room) where
         limit = H .limit;
       }
 
-  posted-holds : (r : ℕ) (v : Value) → r < g .count → Real (v .owner) → Whole (record { count = g .count; root = g .root; rank = g .rank; value = at r v (g .value) })
+  posted-holds : (r : ℕ) (v : Value) → r < g .count → Real (v .owner)
+      → Whole (record { count = g .count; root = g .root; rank = g .rank; value = at r v (g .value) })
       → Holds (writes rs (crown r (high rs r) v ∷ [])) (record { count = g .count; root = g .root; rank = g .rank; value = at r v (g .value) }) room
   unfolding writes
   posted-holds r v h real W =
@@ -136,7 +138,8 @@ module _ {rs : Rows} {g : Groups} {room : ℕ} (H : Holds rs g room) (key : ℕ)
 
 module _ {rs : Rows} {room : ℕ} (now : List Deed) (A : Accepted now) (H : Holds rs (replay now) room) where
   -- A plan that moves no group.
-  rests : (c : Call) (p : Plan) → act (event c (p .answer)) ≡ idle → Holds (writes rs (p .todo)) (replay now) room → Inside (replay now .count) (p .todo) → Calm (p .answer .no)
+  rests : (c : Call) (p : Plan) → act (event c (p .answer)) ≡ idle → Holds (writes rs (p .todo)) (replay now) room
+      → Inside (replay now .count) (p .todo) → Calm (p .answer .no)
       → Planned rs room now c p
   rests c p e K i z = record {
     quiet = rw e tt;
@@ -148,8 +151,10 @@ module _ {rs : Rows} {room : ℕ} (now : List Deed) (A : Accepted now) (H : Hold
   }
 
   -- A plan that moves the groups by one deed.
-  moving : (c : Call) (p : Plan) (d : Deed) → act (event c (p .answer)) ≡ moves d → Accepts (replay now) d → step (replay now) d .count ≡ replay now .count
-      → Holds (writes rs (p .todo)) (step (replay now) d) room → Inside (replay now .count) (p .todo) → Calm (p .answer .no) → Planned rs room now c p
+  moving : (c : Call) (p : Plan) (d : Deed) → act (event c (p .answer)) ≡ moves d → Accepts (replay now) d
+      → step (replay now) d .count ≡ replay now .count
+      → Holds (writes rs (p .todo)) (step (replay now) d) room → Inside (replay now .count) (p .todo) → Calm (p .answer .no)
+      → Planned rs room now c p
   unfolding replay
   moving c p d e a n K i z = record {
     quiet = rw e tt;
@@ -166,16 +171,21 @@ module _ {rs : Rows} {room : ℕ} (now : List Deed) (A : Accepted now) (H : Hold
         → Planned rs room now c (walk rs (replay now .count) key (λ w. plan (reply w) (w .todo)))
     looks reply e z =
         let w : Walked = walkFrom H key h in
-        rw (walk-ends H key h (λ w. plan (reply w) (w .todo))) (rests c (plan (reply w) (w .todo)) (e w) (walk-holds H key h) (walk-inside H key h) (z w))
+        rw (walk-ends H key h (λ w. plan (reply w) (w .todo)))
+        (rests c (plan (reply w) (w .todo)) (e w) (walk-holds H key h) (walk-inside H key h) (z w))
 
   pub find-planned : (key : ℕ) → key < replay now .count → Planned rs room now (Find key) (walk rs (replay now .count) key findOn)
   find-planned key h = looks (Find key) key h (λ w. found (w .root) (w .steps)) (λ w. refl) (λ w. calm 0 refl refl)
 
   pub probe-planned : (key : ℕ) → key < replay now .count → Planned rs room now (Probe key) (walk rs (replay now .count) key probeOn)
-  probe-planned key h = looks (Probe key) key h (λ w. probed 0 (valueOf (rowAt (w .rows) (w .root))) (w .steps)) (λ w. refl) (λ w. calm 0 refl refl)
+  probe-planned key h =
+      looks (Probe key) key h (λ w. probed 0 (valueOf (rowAt (w .rows) (w .root))) (w .steps)) (λ w. refl) (λ w. calm 0 refl refl)
 
-  pub probe-key-planned : (key : ℕ) → key < replay now .count → Planned rs room now (ProbeKey key) (walk rs (replay now .count) key probeKeyOn)
-  probe-key-planned key h = looks (ProbeKey key) key h (λ w. probed (w .root) (valueOf (rowAt (w .rows) (w .root))) (w .steps)) (λ w. refl) (λ w. calm 0 refl refl)
+  pub probe-key-planned : (key : ℕ) → key < replay now .count
+      → Planned rs room now (ProbeKey key) (walk rs (replay now .count) key probeKeyOn)
+  probe-key-planned key h =
+      looks (ProbeKey key) key h (λ w. probed (w .root) (valueOf (rowAt (w .rows) (w .root))) (w .steps)) (λ w. refl)
+      (λ w. calm 0 refl refl)
 
   pub try-planned : (key : ℕ) → Planned rs room now (TryProbe key) (tryProbe rs key)
   unfolding writes
@@ -186,12 +196,18 @@ module _ {rs : Rows} {room : ℕ} (now : List Deed) (A : Accepted now) (H : Hold
   -- ---- a post
 
   module _ (key owner amount : ℕ) (h : key < replay now .count) where
-    post-settled : (m : Merged) → merge (valueOf (rowAt (walkFrom H key h .rows) (replay now .root key))) (value (ownerOf owner) amount) ≡ m
+    post-settled : (m : Merged)
+        → merge (valueOf (rowAt (walkFrom H key h .rows) (replay now .root key))) (value (ownerOf owner) amount) ≡ m
         → Planned rs room now (Post key owner amount)
-        (settle (walkFrom H key h .todo) (walkFrom H key h .steps) (λ x. crown (replay now .root key) (high (walkFrom H key h .rows) (replay now .root key)) x ∷ []) m)
+        (settle (walkFrom H key h .todo) (walkFrom H key h .steps)
+        (λ x. crown (replay now .root key) (high (walkFrom H key h .rows) (replay now .root key)) x ∷ []) m)
     unfolding step
-    post-settled Clash e = rests (Post key owner amount) (plan (stepped 4 (walkFrom H key h .steps)) (walkFrom H key h .todo)) refl (walk-holds H key h) (walk-inside H key h) (calm 4 refl refl)
-    post-settled TooMuch e = rests (Post key owner amount) (plan (stepped 5 (walkFrom H key h .steps)) (walkFrom H key h .todo)) refl (walk-holds H key h) (walk-inside H key h) (calm 5 refl refl)
+    post-settled Clash e =
+        rests (Post key owner amount) (plan (stepped 4 (walkFrom H key h .steps)) (walkFrom H key h .todo)) refl (walk-holds H key h)
+        (walk-inside H key h) (calm 4 refl refl)
+    post-settled TooMuch e =
+        rests (Post key owner amount) (plan (stepped 5 (walkFrom H key h .steps)) (walkFrom H key h .todo)) refl (walk-holds H key h)
+        (walk-inside H key h) (calm 5 refl refl)
     post-settled (Both x) e =
         let g : Groups = replay now in
         let r : ℕ = g .root key in
@@ -203,9 +219,11 @@ module _ {rs : Rows} {room : ℕ} (now : List Deed) (A : Accepted now) (H : Hold
         let m : merge (g .value r) v ≡ Both x = subst (λ (z : Value). merge z v ≡ Both x) same e in
         let a : Accepts g (posted key v) = (h, (x, m)) in
         let crowned : List Write = crown r (high (w .rows) r) x ∷ [] in
-        let W : Whole (record { count = g .count; root = g .root; rank = g .rank; value = at r x (g .value) }) = rw m at (step-whole (H .whole) (posted key v) a) in
+        let W : Whole (record { count = g .count; root = g .root; rank = g .rank; value = at r x (g .value) }) =
+        rw m at (step-whole (H .whole) (posted key v) a) in
         moving (Post key owner amount) (plan (stepped DONE (w .steps)) (w .todo ++ crowned)) (posted key v) refl a (rw m refl)
-        (rw (writes-append rs (w .todo) crowned, m) (posted-holds K r x hr (real-merge K r (g .value r) v x same (real-owner owner) m) W))
+        (rw (writes-append rs (w .todo) crowned, m)
+        (posted-holds K r x hr (real-merge K r (g .value r) v x same (real-owner owner) m) W))
         (inside-append (g .count) (w .todo) crowned (walk-inside H key h) (hr, tt)) (calm 0 refl refl)
 
     pub post-planned : Planned rs room now (Post key owner amount) (walk rs (replay now .count) key (postOn (value (ownerOf owner) amount)))
@@ -226,7 +244,8 @@ module _ {rs : Rows} {room : ℕ} (now : List Deed) (A : Accepted now) (H : Hold
     walked = first .todo ++ second .todo
 
     both-end : (next : Walked → Walked → Plan) → walkBoth rs (replay now .count) a b next ≡ next first second
-    both-end next = walk-ends H a ha (λ v. walk (v .rows) (replay now .count) b (next v)) ∙ walk-ends (walk-holds H a ha) b hb (next first)
+    both-end next =
+        walk-ends H a ha (λ v. walk (v .rows) (replay now .count) b (next v)) ∙ walk-ends (walk-holds H a ha) b hb (next first)
 
     both-rows : writes rs walked ≡ second .rows
     both-rows = writes-append rs (first .todo) (second .todo)
@@ -238,21 +257,25 @@ module _ {rs : Rows} {room : ℕ} (now : List Deed) (A : Accepted now) (H : Hold
     walked-hold = rw both-rows both-hold
 
     both-inside : Inside (replay now .count) walked
-    both-inside = inside-append (replay now .count) (first .todo) (second .todo) (walk-inside H a ha) (walk-inside (walk-holds H a ha) b hb)
+    both-inside =
+        inside-append (replay now .count) (first .todo) (second .todo) (walk-inside H a ha) (walk-inside (walk-holds H a ha) b hb)
 
     pub unioned-planned : Planned rs room now (Unioned a b) (walkBoth rs (replay now .count) a b unionedOn)
     unioned-planned =
         rw (both-end unionedOn)
-        (rests (Unioned a b) (plan (said (eqb (first .root) (second .root)) (first .steps + second .steps)) walked) refl walked-hold both-inside (calm 0 refl refl))
+        (rests (Unioned a b) (plan (said (eqb (first .root) (second .root)) (first .steps + second .steps)) walked) refl walked-hold
+        both-inside (calm 0 refl refl))
 
     -- ---- a join
 
-    join-same : replay now .root a ≡ replay now .root b → Planned rs room now (Join a b) (plan (stepped DONE (first .steps + second .steps)) walked)
+    join-same : replay now .root a ≡ replay now .root b
+        → Planned rs room now (Join a b) (plan (stepped DONE (first .steps + second .steps)) walked)
     unfolding step
     join-same e =
         let g : Groups = replay now in
         let q : eqb (g .root a) (g .root b) ≡ true = eq-eqb (g .root a) (g .root b) e in
-        moving (Join a b) (plan (stepped DONE (first .steps + second .steps)) walked) (joined a b) refl (ha, hb, inl e) (rw q refl) (rw q walked-hold) both-inside (calm 0 refl refl)
+        moving (Join a b) (plan (stepped DONE (first .steps + second .steps)) walked) (joined a b) refl (ha, hb, inl e) (rw q refl)
+        (rw q walked-hold) both-inside (calm 0 refl refl)
 
     module _ (d : replay now .root a ≢ replay now .root b) where
       not-high : tooHigh (second .rows) (replay now .root a) (replay now .root b) ≡ false
@@ -261,10 +284,14 @@ module _ {rs : Rows} {room : ℕ} (now : List Deed) (A : Accepted now) (H : Hold
           let low : (i : ℕ) → i < g .count → high (second .rows) (g .root i) ≤ MAX-RANK = λ i h.
           subst⁻¹ (λ (z : ℕ). z ≤ MAX-RANK) (root-rank both-hold (g .root i) (H .whole .within i h) (H .whole .settled i))
           (rank-low (H .whole) (count-limit H) (g .root i) (H .whole .within i h) (H .whole .settled i)) in
-          rw (le-ltb MAX-RANK (high (second .rows) (g .root a)) (low a ha), le-ltb MAX-RANK (high (second .rows) (g .root b)) (low b hb))
+          rw (
+            le-ltb MAX-RANK (high (second .rows) (g .root a)) (low a ha),
+            le-ltb MAX-RANK (high (second .rows) (g .root b)) (low b hb),
+          )
 
       -- The rows written by rank are those of the groups united by rank.
-      united-holds : (v : Value) → merge (replay now .value (replay now .root a)) (replay now .value (replay now .root b)) ≡ Both v → Real (v .owner)
+      united-holds : (v : Value) → merge (replay now .value (replay now .root a)) (replay now .value (replay now .root b)) ≡ Both v
+          → Real (v .owner)
           → Holds (writes (second .rows) (unite (second .rows) (replay now .root a) (replay now .root b) v)) (united (replay now) (replay now .root a) (replay now .root b) v) room
           × Inside (replay now .count) (unite (second .rows) (replay now .root a) (replay now .root b) v)
       united-holds v m real =
@@ -275,34 +302,48 @@ module _ {rs : Rows} {room : ℕ} (now : List Deed) (A : Accepted now) (H : Hold
           let hs : s < g .count = H .whole .within b hb in
           let onto : ℕ → ℕ → ℕ → List Write = λ low top k. redirect low top ∷ crown top k v ∷ [] in
           let by : ℕ → ℕ → List Write = λ x y. cond (ltb y x) (onto s r x) (cond (ltb x y) (onto r s y) (onto r s (y + 1))) in
-          let is : unite (second .rows) r s v ≡ cond (ltb (g .rank s) (g .rank r)) (onto s r (g .rank r)) (onto r s (raised (g .rank r) (g .rank s))) =
+          let is : unite (second .rows) r s v ≡ cond (ltb (g .rank s) (g .rank r)) (onto s r (g .rank r))
+          (onto r s (raised (g .rank r) (g .rank s))) =
           ap₂ by (root-rank both-hold r hr (H .whole .settled a)) (root-rank both-hold s hs (H .whole .settled b))
           ∙ ap (cond (ltb (g .rank s) (g .rank r)) (onto s r (g .rank r))) (cond-raised (onto r s) (g .rank r) (g .rank s)) in
           subst⁻¹ (λ (ws : List Write). Holds (writes (second .rows) ws) (united g r s v) room × Inside (g .count) ws) is
-          (by-rank (λ (ws : List Write) (g′ : Groups). Holds (writes (second .rows) ws) g′ room × Inside (g .count) ws) (g .rank r) (g .rank s)
+          (by-rank (λ (ws : List Write) (g′ : Groups). Holds (writes (second .rows) ws) g′ room × Inside (g .count) ws) (g .rank r)
+          (g .rank s)
           (onto s r) (onto r s) (λ k. hung g s r k v) (λ k. hung g r s k v)
-          (λ k q. let G = hangs-b g (H .whole) a b ha hb d v m k q in (hung-holds both-hold a b s r k v G real (hung-whole (H .whole) a b s r k v G), (hs, (hr, tt))))
-          (λ k q. let G = hangs-a g (H .whole) a b ha hb d v m k q in (hung-holds both-hold a b r s k v G real (hung-whole (H .whole) a b r s k v G), (hr, (hs, tt)))))
+          (λ k q.
+          let G = hangs-b g (H .whole) a b ha hb d v m k q in
+          (hung-holds both-hold a b s r k v G real (hung-whole (H .whole) a b s r k v G), (hs, (hr, tt))))
+          (λ k q.
+          let G = hangs-a g (H .whole) a b ha hb d v m k q in
+          (hung-holds both-hold a b r s k v G real (hung-whole (H .whole) a b r s k v G), (hr, (hs, tt)))))
 
-      join-settled : (m : Merged) → merge (valueOf (rowAt (second .rows) (replay now .root a))) (valueOf (rowAt (second .rows) (replay now .root b))) ≡ m
+      join-settled : (m : Merged)
+          → merge (valueOf (rowAt (second .rows) (replay now .root a))) (valueOf (rowAt (second .rows) (replay now .root b))) ≡ m
           → Planned rs room now (Join a b) (settle walked (first .steps + second .steps) (unite (second .rows) (replay now .root a) (replay now .root b)) m)
       unfolding step
-      join-settled Clash e = rests (Join a b) (plan (stepped 4 (first .steps + second .steps)) walked) refl walked-hold both-inside (calm 4 refl refl)
-      join-settled TooMuch e = rests (Join a b) (plan (stepped 5 (first .steps + second .steps)) walked) refl walked-hold both-inside (calm 5 refl refl)
+      join-settled Clash e =
+          rests (Join a b) (plan (stepped 4 (first .steps + second .steps)) walked) refl walked-hold both-inside (calm 4 refl refl)
+      join-settled TooMuch e =
+          rests (Join a b) (plan (stepped 5 (first .steps + second .steps)) walked) refl walked-hold both-inside (calm 5 refl refl)
       join-settled (Both v) e =
           let g : Groups = replay now in
           let r : ℕ = g .root a in
           let s : ℕ = g .root b in
-          let vr : valueOf (rowAt (second .rows) r) ≡ g .value r = root-value both-hold r (H .whole .within a ha) (H .whole .settled a) in
-          let vs : valueOf (rowAt (second .rows) s) ≡ g .value s = root-value both-hold s (H .whole .within b hb) (H .whole .settled b) in
+          let vr : valueOf (rowAt (second .rows) r) ≡ g .value r =
+          root-value both-hold r (H .whole .within a ha) (H .whole .settled a) in
+          let vs : valueOf (rowAt (second .rows) s) ≡ g .value s =
+          root-value both-hold s (H .whole .within b hb) (H .whole .settled b) in
           let m : merge (g .value r) (g .value s) ≡ Both v = sym (ap₂ merge vr vs) ∙ e in
-          let real-s : Real (g .value s .owner) = subst (λ (z : Value). Real (z .owner)) vs (real-owner (getD (second .rows .owners) s 0)) in
+          let real-s : Real (g .value s .owner) =
+          subst (λ (z : Value). Real (z .owner)) vs (real-owner (getD (second .rows .owners) s 0)) in
           let U = united-holds v m (real-merge both-hold r (g .value r) (g .value s) v vr real-s m) in
           let q : eqb r s ≡ false = ne-eqb r s d in
           let uniting : List Write = unite (second .rows) r s v in
           let count : united g r s v .count ≡ g .count =
-          by-rank (λ (_ : ℕ) (g′ : Groups). g′ .count ≡ g .count) (g .rank r) (g .rank s) (λ k. k) (λ k. k) (λ k. hung g s r k v) (λ k. hung g r s k v) (λ k _. refl) (λ k _. refl) in
-          moving (Join a b) (plan (stepped DONE (first .steps + second .steps)) (walked ++ uniting)) (joined a b) refl (ha, hb, inr (v, m)) (rw (q, m) count)
+          by-rank (λ (_ : ℕ) (g′ : Groups). g′ .count ≡ g .count) (g .rank r) (g .rank s) (λ k. k) (λ k. k) (λ k. hung g s r k v)
+          (λ k. hung g r s k v) (λ k _. refl) (λ k _. refl) in
+          moving (Join a b) (plan (stepped DONE (first .steps + second .steps)) (walked ++ uniting)) (joined a b) refl
+          (ha, hb, inr (v, m)) (rw (q, m) count)
           (rw (writes-append rs walked uniting, both-rows, q, m) (U .0))
           (inside-append (g .count) walked uniting both-inside (U .1)) (calm 0 refl refl)
 
@@ -313,4 +354,5 @@ module _ {rs : Rows} {room : ℕ} (now : List Deed) (A : Accepted now) (H : Hold
         rw (both-end joinOn)
         (planned-cond (eqb r s)
         (λ e. join-same (eqb-true r s e))
-        (λ e. rw (not-high (eqb-false r s e)) (join-settled (eqb-false r s e) (merge (valueOf (rowAt (second .rows) r)) (valueOf (rowAt (second .rows) s))) refl)))
+        (λ e. rw (not-high (eqb-false r s e))
+        (join-settled (eqb-false r s e) (merge (valueOf (rowAt (second .rows) r)) (valueOf (rowAt (second .rows) s))) refl)))

@@ -55,20 +55,25 @@ module _ {t : Table} {h : History} (S : Stands t h) where
       keeps-cond (full (memoryOf t) (length (p .todo))) (λ _. keeps-refused S c 3 refl (calm 3 refl refl)) (λ e.
       let r : puts (memoryOf t) (p .todo) .rows ≡ writes (t .rows) (p .todo) = puts-rows (p .todo) (memoryOf t) in
       record {
-        stands = stands-on S (event c (p .answer)) (puts (memoryOf t) (p .todo) .rows) (puts (memoryOf t) (p .todo) .log) (t .state .count) (puts (memoryOf t) (p .todo) .used) (P .quiet)
+        stands =
+            stands-on S (event c (p .answer)) (puts (memoryOf t) (p .todo) .rows) (puts (memoryOf t) (p .todo) .log) (t .state .count)
+            (puts (memoryOf t) (p .todo) .used) (P .quiet)
             (rw r (P .holds .wide)) (S .fits)
-            (log-puts (markAt (t .state)) (S .log-room) (p .todo) (memoryOf t) (t .state .count) (track h .saved) (S .opened) (free (length (p .todo)) e) (rw (S .made .counted) at (P .inside)) (as-logged S))
+            (log-puts (markAt (t .state)) (S .log-room) (p .todo) (memoryOf t) (t .state .count) (track h .saved) (S .opened)
+            (free (length (p .todo)) e) (rw (S .made .counted) at (P .inside)) (as-logged S))
             (rw r (record { accepted = P .accepted; counted = P .counted ∙ S .made .counted; shows = P .holds .shows }));
         peace = P .peace;
       })
 
-  pub keeps-live : (c : Call) (key : ℕ) (p : Plan) → (key < replay (track h .now) .count → Planned (t .rows) (S .room) (track h .now) c p) → Keeps h c (live t key p)
+  pub keeps-live : (c : Call) (key : ℕ) (p : Plan)
+      → (key < replay (track h .now) .count → Planned (t .rows) (S .room) (track h .now) c p) → Keeps h c (live t key p)
   keeps-live c key p f =
       keeps-cond (leb (t .state .count) key) (λ _. keeps-refused S c 1 refl (calm 1 refl refl))
       (λ e. keeps-carry c p (f (omega (arith, leb-false (t .state .count) key e, S .made .counted))))
 
   pub keeps-one : (c : Call) (key : ℕ) (next : Walked → Plan)
-      → (key < replay (track h .now) .count → Planned (t .rows) (S .room) (track h .now) c (walk (t .rows) (replay (track h .now) .count) key next)) → Keeps h c (one t key next)
+      → (key < replay (track h .now) .count → Planned (t .rows) (S .room) (track h .now) c (walk (t .rows) (replay (track h .now) .count) key next))
+      → Keeps h c (one t key next)
   keeps-one c key next f =
       keeps-live c key (walk (t .rows) (t .state .count) key next)
       (λ q. subst (λ (n : ℕ). Planned (t .rows) (S .room) (track h .now) c (walk (t .rows) n key next)) (S .made .counted) (f q))
@@ -86,7 +91,8 @@ module _ {t : Table} {h : History} (S : Stands t h) where
 
   -- ---- a new key
 
-  grown-made : (v : Value) (n : ℕ) → replay (track h .now) .count ≡ n → n < S .room → Real (v .owner) → Made (putRow (t .rows) n (row n 0 v)) (n + 1) (created n v ∷ track h .now)
+  grown-made : (v : Value) (n : ℕ) → replay (track h .now) .count ≡ n → n < S .room → Real (v .owner)
+      → Made (putRow (t .rows) n (row n 0 v)) (n + 1) (created n v ∷ track h .now)
   unfolding replay groupStep
   grown-made v n e f real =
       let g : Groups = replay (track h .now) in
@@ -110,13 +116,18 @@ module _ {t : Table} {h : History} (S : Stands t h) where
       let f : n < S .room = omega (arith, eqb-false n (length (t .rows .parents)) e, S .lends .row-parts .0, S .fits) in
       keeps-cond (full (memoryOf t) 1) (λ _. keeps-refused S c 3 refl (calm 3 refl refl)) (λ e′.
       record {
-        stands = stands-on S (event c (found n 0)) rs (logged (NewElem n) (memoryOf t) .log) (n + 1) (logged (NewElem n) (memoryOf t) .used) tt w (omega arith)
-            (log-one (markAt (t .state)) (S .log-room) (memoryOf t) n (n + 1) rs rs (track h .saved) (NewElem n) (S .opened) (free 1 e′) tt refl
+        stands =
+            stands-on S (event c (found n 0)) rs (logged (NewElem n) (memoryOf t) .log) (n + 1) (logged (NewElem n) (memoryOf t) .used)
+            tt w (omega arith)
+            (log-one (markAt (t .state)) (S .log-room) (memoryOf t) n (n + 1) rs rs (track h .saved) (NewElem n) (S .opened) (free 1 e′)
+            tt refl
             (λ keys es p. rw (eq-eqb (n + 1) (n + 1) refl) p)
             (record {
               wide = S .lends .log-parts;
               fits = S .log-fits;
-              back = back-alike (S .room) (t .log) (markAt (t .state)) (t .state .used) n (t .rows) rs (track h .saved) (S .fits) (S .lends .row-parts) w
+              back =
+                  back-alike (S .room) (t .log) (markAt (t .state)) (t .state .used) n (t .rows) rs (track h .saved) (S .fits)
+                  (S .lends .row-parts) w
                   (alike-past n (t .rows) n (row n 0 v) (λ j q z. omega arith)) (S .back);
             }))
             (grown-made v n (S .made .counted) f (real-owner owner));

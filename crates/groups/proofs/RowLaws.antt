@@ -32,7 +32,8 @@ real-owner n e = bySame n 0
 -- ---- one row
 
 -- What is read back, whoever the owner.
-row-back : (rs : Rows) (n i : ℕ) (r : Row) → WideRows rs n → i < n → rowAt (putRow rs i r) i ≡ row (r .parent) (r .rank) (value (ownerOf (numberOf (r .owner))) (r .amount))
+row-back : (rs : Rows) (n i : ℕ) (r : Row) → WideRows rs n → i < n
+    → rowAt (putRow rs i r) i ≡ row (r .parent) (r .rank) (value (ownerOf (numberOf (r .owner))) (r .amount))
 row-back rs n i r w h =
     rw (
       getD-set-same (rs .parents) i (r .parent) 0 (rw (w .0) h),
@@ -42,7 +43,8 @@ row-back rs n i r w h =
     )
 
 pub row-hit : (rs : Rows) (n i : ℕ) (r : Row) → WideRows rs n → i < n → Real (r .owner) → rowAt (putRow rs i r) i ≡ r
-row-hit rs n i r w h real = row-back rs n i r w h ∙ ap (λ (o : Owner). row (r .parent) (r .rank) (value o (r .amount))) (owner-of-number (r .owner) real)
+row-hit rs n i r w h real =
+    row-back rs n i r w h ∙ ap (λ (o : Owner). row (r .parent) (r .rank) (value o (r .amount))) (owner-of-number (r .owner) real)
 
 pub row-miss : (rs : Rows) (i j : ℕ) (r : Row) → j ≢ i → rowAt (putRow rs i r) j ≡ rowAt rs j
 row-miss rs i j r d =
@@ -54,8 +56,13 @@ row-miss rs i j r d =
     )
 
 pub wide-put : (rs : Rows) (n i : ℕ) (r : Row) → WideRows rs n → WideRows (putRow rs i r) n
-wide-put rs n i r w =
-    (length-set (rs .parents) i (r .parent) ∙ w .0, length-set (rs .ranks) i (r .rank) ∙ w .1, length-set (rs .owners) i (numberOf (r .owner)) ∙ w .2, length-set (rs .amounts) i (r .amount) ∙ w .3)
+wide-put rs n i r w = (
+  length-set (rs .parents) i (r .parent) ∙ w .0,
+  length-set (rs .ranks) i (r .rank) ∙ w .1,
+  length-set (rs .owners) i
+      (numberOf (r .owner)) ∙ w .2,
+  length-set (rs .amounts) i (r .amount) ∙ w .3,
+)
 
 -- A row written and put back leaves the rows as they were.
 put-back-list : (l : List ℕ) (i a b : ℕ) → b ≡ getD l i 0 → set (set l i a) i b ≡ l
@@ -66,7 +73,8 @@ put-back rs i r =
     rw (
       put-back-list (rs .parents) i (r .parent) (getD (rs .parents) i 0) refl,
       put-back-list (rs .ranks) i (r .rank) (getD (rs .ranks) i 0) refl,
-      put-back-list (rs .owners) i (numberOf (r .owner)) (numberOf (ownerOf (getD (rs .owners) i 0))) (number-owner (getD (rs .owners) i 0)),
+      put-back-list (rs .owners) i (numberOf (r .owner)) (numberOf (ownerOf (getD (rs .owners) i 0)))
+          (number-owner (getD (rs .owners) i 0)),
       put-back-list (rs .amounts) i (r .amount) (getD (rs .amounts) i 0) refl,
     )
 
@@ -75,7 +83,8 @@ put-back rs i r =
 abbrev pub Alike : ℕ → Rows → Rows → Type 0
 Alike n rs rs′ = (i : ℕ) → i < n → rowAt rs i ≡ rowAt rs′ i
 
-pub alike-put : (n room : ℕ) (rs rs′ : Rows) (i : ℕ) (r : Row) → WideRows rs room → WideRows rs′ room → i < room → Alike n rs rs′ → Alike n (putRow rs i r) (putRow rs′ i r)
+pub alike-put : (n room : ℕ) (rs rs′ : Rows) (i : ℕ) (r : Row) → WideRows rs room → WideRows rs′ room → i < room → Alike n rs rs′
+    → Alike n (putRow rs i r) (putRow rs′ i r)
 alike-put n room rs rs′ i r w w′ h a j q =
     bySame j i
     (λ e. rw e (row-back rs room i r w h ∙ sym (row-back rs′ room i r w′ h)))

@@ -23,7 +23,8 @@ use Rattle.groups.proofs.Calls.{keeps}
 module _ (t : Table) {g : Groups} {room : ℕ} (H : Holds (t .rows) g room) (counted : g .count ≡ t .state .count) where
   pub walk-reaches : (key : ℕ) (h : key < g .count) → walkOf t key ≡ to (g .root key) (reaches H key h .passed)
   walk-reaches key h =
-      subst (λ (n : ℕ). path (t .rows .parents) n MAX-REDIRECTS key ≡ to (g .root key) (reaches H key h .passed)) counted (reaches H key h .ends)
+      subst (λ (n : ℕ). path (t .rows .parents) n MAX-REDIRECTS key ≡ to (g .root key) (reaches H key h .passed)) counted
+      (reaches H key h .ends)
 
   pub same-groups : Same (groupsOf t) g
   same-groups = record {

@@ -38,10 +38,27 @@ module _ (root : ℕ → ℕ) (r s : ℕ) (d : r ≢ s) where
   due-shift : (key v : ℕ) → due (shift root r s) s key v ≡ due root r key v + due root s key v
   due-shift key v =
       bySame (root key) r
-      (λ e. omega (arith, due-hit (shift root r s) s key v (shift-hit root r s key e), due-hit root r key v e, due-miss root s key v (λ q. d (sym e ∙ q))))
+      (λ e. omega (
+        arith,
+        due-hit (shift root r s) s key v (shift-hit root r s key e),
+        due-hit root r key v e,
+        due-miss root s key v
+            (λ q. d (sym e ∙ q)),
+      ))
       (λ e. bySame (root key) s
-      (λ q. omega (arith, due-hit (shift root r s) s key v (shift-miss root r s key e ∙ q), due-miss root r key v e, due-hit root s key v q))
-      (λ q. omega (arith, due-miss (shift root r s) s key v (λ z. q (sym (shift-miss root r s key e) ∙ z)), due-miss root r key v e, due-miss root s key v q)))
+      (λ q. omega (
+        arith,
+        due-hit (shift root r s) s key v (shift-miss root r s key e ∙ q),
+        due-miss root r key v e,
+        due-hit root s key
+            v q,
+      ))
+      (λ q. omega (
+        arith,
+        due-miss (shift root r s) s key v (λ z. q (sym (shift-miss root r s key e) ∙ z)),
+        due-miss root r key v e,
+        due-miss root s key v q,
+      )))
 
   pub total-shift : (cs : Credits) → total (shift root r s) s cs ≡ total root r cs + total root s cs
   unfolding total
@@ -52,7 +69,8 @@ module _ (root : ℕ → ℕ) (r s q : ℕ) (d : q ≢ r) (d′ : q ≢ s) where
   due-shift-other : (key v : ℕ) → due (shift root r s) q key v ≡ due root q key v
   due-shift-other key v =
       bySame (root key) r
-      (λ e. due-miss (shift root r s) q key v (λ z. d′ (sym z ∙ shift-hit root r s key e)) ∙ sym (due-miss root q key v (λ z. d (sym z ∙ e))))
+      (λ e. due-miss (shift root r s) q key v (λ z. d′ (sym z ∙ shift-hit root r s key e)) ∙ sym
+      (due-miss root q key v (λ z. d (sym z ∙ e))))
       (λ e. ap (λ (x : ℕ). cond (eqb x q) v 0) (shift-miss root r s key e))
 
   pub total-shift-other : (cs : Credits) → total (shift root r s) q cs ≡ total root q cs
@@ -67,7 +85,8 @@ pub size-le : (root : ℕ → ℕ) (r n : ℕ) → size root n r ≤ n
 unfolding total
 size-le root r zero = zero-le
 size-le root r (suc n) =
-    bySame (root n) r (λ e. omega (arith, due-hit root r n 1 e, size-le root r n)) (λ e. omega (arith, due-miss root r n 1 e, size-le root r n))
+    bySame (root n) r (λ e. omega (arith, due-hit root r n 1 e, size-le root r n))
+    (λ e. omega (arith, due-miss root r n 1 e, size-le root r n))
 
 -- Every key of the list is below n.
 pub data Below (n : ℕ) : Credits → Type 0 where
@@ -89,7 +108,9 @@ total-none root r n f [] b = refl
 total-none root r n f (c ∷ cs) (more h b) = omega (arith, due-miss root r (c .0) (c .1) (f (c .0) h), total-none root r n f cs b)
 
 -- Only the roots of the keys in the list count.
-pub total-agree : (n : ℕ) (f g : ℕ → ℕ) → ((i : ℕ) → i < n → f i ≡ g i) → (r : ℕ) (cs : Credits) → Below n cs → total f r cs ≡ total g r cs
+pub total-agree : (n : ℕ) (f g : ℕ → ℕ) → ((i : ℕ) → i < n → f i ≡ g i) → (r : ℕ) (cs : Credits) → Below n cs
+    → total f r cs ≡ total g r cs
 unfolding total
 total-agree n f g e r [] b = refl
-total-agree n f g e r (c ∷ cs) (more h b) = ap₂ (λ (x y : ℕ). x + y) (ap (λ (z : ℕ). cond (eqb z r) (c .1) 0) (e (c .0) h)) (total-agree n f g e r cs b)
+total-agree n f g e r (c ∷ cs) (more h b) =
+    ap₂ (λ (x y : ℕ). x + y) (ap (λ (z : ℕ). cond (eqb z r) (c .1) 0) (e (c .0) h)) (total-agree n f g e r cs b)

@@ -33,7 +33,8 @@ use Rattle.groups.proofs.Kept.{Keeps, keeps-idle, keeps-refused}
 module _ {t : Table} {h : History} (S : Stands t h) where
   -- ---- calls that leave rows and log alone
 
-  resting-cond : {c : Call} (b : Bool) {x y : Answered} → (b ≡ true → Keeps h c (resting t x)) → (b ≡ false → Keeps h c (resting t y)) → Keeps h c (resting t (cond b x y))
+  resting-cond : {c : Call} (b : Bool) {x y : Answered} → (b ≡ true → Keeps h c (resting t x)) → (b ≡ false → Keeps h c (resting t y))
+      → Keeps h c (resting t (cond b x y))
   resting-cond true f g = f refl
   resting-cond false f g = g refl
 
@@ -46,7 +47,8 @@ module _ {t : Table} {h : History} (S : Stands t h) where
       let xs : List Saved = track h .saved in
       let new-mark : Mark = mark (s .last + 1) (s .used) (s .count) in
       let here : markAt (marked s) (length xs) ≡ new-mark =
-      subst (λ (k : ℕ). markAt (marked s) k ≡ new-mark) (S .opened) (getD-set-same (s .marks) (s .«open») new-mark (mark 0 0 0) (omega (arith, S .opened, S .marks-kept))) in
+      subst (λ (k : ℕ). markAt (marked s) k ≡ new-mark) (S .opened)
+      (getD-set-same (s .marks) (s .«open») new-mark (mark 0 0 0) (omega (arith, S .opened, S .marks-kept))) in
       let none : s .used - s .used ≡ 0 = omega arith in
       rw (here, none) (
         refl,
@@ -106,12 +108,16 @@ module _ {t : Table} {h : History} (S : Stands t h) where
 
     inner-fits : unfit (t .state) inner ≡ false
     inner-fits =
-        let (p, q) = back-fits (t .log) (markAt (t .state)) (t .state .used) (t .state .count) (t .rows) (x ∷ xs) inner-back (length xs) (le-refl (suc (length xs))) in
+        let (p, q) =
+        back-fits (t .log) (markAt (t .state)) (t .state .used) (t .state .count) (t .rows) (x ∷ xs) inner-back (length xs)
+        (le-refl (suc (length xs))) in
         rw (le-ltb (t .state .used) (inner .«log_len») p, le-ltb (t .state .count) (inner .keys) q)
 
     -- The innermost snapshot is dropped, with these rows, this count and used log left.
-    dropped-stands : (e′ : Event) (now : List Deed) (rs : Rows) (count used : ℕ) → noted (track h) (act e′) ≡ record { now = now; saved = xs }
-        → Follows (lastToken h) (track h .saved) (act e′) → newer (lastToken h) (act e′) ≡ lastToken h → WideRows rs (S .room) → count ≤ t .state .count → used ≤ t .state .used
+    dropped-stands : (e′ : Event) (now : List Deed) (rs : Rows) (count used : ℕ)
+        → noted (track h) (act e′) ≡ record { now = now; saved = xs }
+        → Follows (lastToken h) (track h .saved) (act e′) → newer (lastToken h) (act e′) ≡ lastToken h → WideRows rs (S .room)
+        → count ≤ t .state .count → used ≤ t .state .used
         → Made rs count now → LeadsBack (t .log) (markAt (t .state)) used count rs xs
         → Stands (table rs (t .log) (counting (t .state) count used (t .state .«open» - 1))) (e′ ∷ h)
     unfolding track lastToken Orderly
@@ -120,7 +126,13 @@ module _ {t : Table} {h : History} (S : Stands t h) where
         record {
           room = S .room;
           log-room = S .log-room;
-          lends = record { row-parts = w; log-parts = S .lends .log-parts; row-limit = S .lends .row-limit; log-limit = S .lends .log-limit };
+          lends =
+              record {
+                row-parts = w;
+                log-parts = S .lends .log-parts;
+                row-limit = S .lends .row-limit;
+                log-limit = S .lends .log-limit;
+              };
           fits = omega (arith, S .fits);
           log-fits = omega (arith, S .log-fits);
           marks-kept = S .marks-kept;
@@ -140,8 +152,10 @@ module _ {t : Table} {h : History} (S : Stands t h) where
     undone-stands token q =
         let (serial, len, able, made, rest) = inner-back in
         let es : List UndoLog = since (t .log) (t .state) inner in
-        let n : noted (track h) (undoes token) ≡ record { now = x .deeds; saved = xs } = ap (λ (ys : List Saved). record { now = restored (track h .now) ys; saved = dropped ys }) e in
-        dropped-stands (event (Rollback token) (refusal DONE)) (x .deeds) (undo (t .rows) es) (inner .keys) (inner .«log_len») n (innermost-named token q) refl
+        let n : noted (track h) (undoes token) ≡ record { now = x .deeds; saved = xs } =
+        ap (λ (ys : List Saved). record { now = restored (track h .now) ys; saved = dropped ys }) e in
+        dropped-stands (event (Rollback token) (refusal DONE)) (x .deeds) (undo (t .rows) es) (inner .keys) (inner .«log_len») n
+        (innermost-named token q) refl
         (wide-undo (t .rows) (S .room) es (S .lends .row-parts)) (undoable-le (inner .keys) (t .state .count) es able) len made rest
 
     keeps-undone : (token : ℕ) → Keeps h (Rollback token) (rollback t token)
@@ -152,17 +166,20 @@ module _ {t : Table} {h : History} (S : Stands t h) where
         (record { stands = undone-stands token (eqb-true (inner .serial) token q); peace = calm 0 refl refl }))
         (λ q. rw q (keeps-refused S (Rollback token) 6 refl (calm 6 refl refl))))
 
-    closed-stands : (token : ℕ) → inner .serial ≡ token → (used : ℕ) → used ≤ t .state .used → LeadsBack (t .log) (markAt (t .state)) used (t .state .count) (t .rows) xs
+    closed-stands : (token : ℕ) → inner .serial ≡ token → (used : ℕ) → used ≤ t .state .used
+        → LeadsBack (t .log) (markAt (t .state)) used (t .state .count) (t .rows) xs
         → Stands (table (t .rows) (t .log) (counting (t .state) (t .state .count) used (t .state .«open» - 1))) (event (Commit token) (refusal DONE) ∷ h)
     closed-stands token q used u back =
         dropped-stands (event (Commit token) (refusal DONE)) (track h .now) (t .rows) (t .state .count) used
-        (ap (λ (ys : List Saved). record { now = track h .now; saved = dropped ys }) e) (innermost-named token q) refl (S .lends .row-parts) (le-refl (t .state .count)) u (S .made) back
+        (ap (λ (ys : List Saved). record { now = track h .now; saved = dropped ys }) e) (innermost-named token q) refl
+        (S .lends .row-parts) (le-refl (t .state .count)) u (S .made) back
 
   none-open : track h .saved ≡ [] → t .state .«open» ≡ 0
   none-open e = S .opened ∙ ap length e
 
   pub keeps-rollback : (token : ℕ) (ys : List Saved) → track h .saved ≡ ys → Keeps h (Rollback token) (rollback t token)
-  keeps-rollback token [] e = rw (eq-eqb (t .state .«open») 0 (none-open e)) (keeps-refused S (Rollback token) 6 refl (calm 6 refl refl))
+  keeps-rollback token [] e =
+      rw (eq-eqb (t .state .«open») 0 (none-open e)) (keeps-refused S (Rollback token) 6 refl (calm 6 refl refl))
   keeps-rollback token (x ∷ xs) e = keeps-undone x xs e token
 
   -- The only open snapshot, and one of several.
@@ -191,7 +208,8 @@ module _ {t : Table} {h : History} (S : Stands t h) where
 
   -- ---- questions
 
-  keeps-asked : (c : Call) (token : ℕ) (reply : Mark → Answer) → ((m : Mark) → act (event c (reply m)) ≡ idle) → ((m : Mark) → Calm (reply m .no)) → (n : ℕ) → n ≤ length (track h .saved)
+  keeps-asked : (c : Call) (token : ℕ) (reply : Mark → Answer) → ((m : Mark) → act (event c (reply m)) ≡ idle)
+      → ((m : Mark) → Calm (reply m .no)) → (n : ℕ) → n ≤ length (track h .saved)
       → Keeps h c (resting t (asked (t .state) reply (seek (t .state) token n)))
   unfolding seek
   keeps-asked c token reply i z zero f = keeps-refused S c 11 refl (calm 11 refl refl)
@@ -199,9 +217,11 @@ module _ {t : Table} {h : History} (S : Stands t h) where
       let m : Mark = markAt (t .state) n in
       let (p, q) = back-fits (t .log) (markAt (t .state)) (t .state .used) (t .state .count) (t .rows) (track h .saved) (S .back) n f in
       cases (eqb (m .serial) token)
-      (λ e. rw (e, le-ltb (t .state .used) (m .«log_len») p, le-ltb (t .state .count) (m .keys) q) (keeps-idle S c (reply m) (i m) (z m)))
+      (λ e. rw (e, le-ltb (t .state .used) (m .«log_len») p, le-ltb (t .state .count) (m .keys) q)
+      (keeps-idle S c (reply m) (i m) (z m)))
       (λ e. rw e (keeps-asked c token reply i z n (omega arith)))
 
-  pub keeps-ask : (c : Call) (token : ℕ) (reply : Mark → Answer) → ((m : Mark) → act (event c (reply m)) ≡ idle) → ((m : Mark) → Calm (reply m .no))
+  pub keeps-ask : (c : Call) (token : ℕ) (reply : Mark → Answer) → ((m : Mark) → act (event c (reply m)) ≡ idle)
+      → ((m : Mark) → Calm (reply m .no))
       → Keeps h c (resting t (ask (t .state) token reply))
   keeps-ask c token reply i z = keeps-asked c token reply i z (t .state .«open») (omega (arith, S .opened))

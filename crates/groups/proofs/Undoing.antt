@@ -45,7 +45,11 @@ module _ (l : Log) (entries u : ℕ) (w : WideLog l entries) (h : u < entries) w
 
 pub entry-miss : (l : Log) (u j : ℕ) (e : UndoLog) → j ≢ u → entryAt (putEntry l u e) j ≡ entryAt l j
 entry-miss l u j e d =
-    rw (getD-set-other (l .kinds) u j (kindOf e) KIND-UNKNOWN d, getD-set-other (l .keys) u j (keyOf e) 0 d, row-miss (l .old) u j (oldOf e) d)
+    rw (
+      getD-set-other (l .kinds) u j (kindOf e) KIND-UNKNOWN d,
+      getD-set-other (l .keys) u j (keyOf e) 0 d,
+      row-miss (l .old) u j (oldOf e) d,
+    )
 
 pub wide-entry : (l : Log) (entries u : ℕ) (e : UndoLog) → WideLog l entries → WideLog (putEntry l u e) entries
 wide-entry l entries u e w =
@@ -58,7 +62,8 @@ unfolding undo
 undo-append rs [] fs = refl
 undo-append rs (e ∷ es) fs = undo-append (reversed rs e) es fs
 
-pub undoable-append : (keys mid count : ℕ) (es fs : List UndoLog) → undoable mid count es ≡ true → undoable keys mid fs ≡ true → undoable keys count (es ++ fs) ≡ true
+pub undoable-append : (keys mid count : ℕ) (es fs : List UndoLog) → undoable mid count es ≡ true → undoable keys mid fs ≡ true
+    → undoable keys count (es ++ fs) ≡ true
 unfolding undoable
 undoable-append keys mid count [] fs p q = rw (eqb-true count mid p) q
 undoable-append keys mid count (NewElem key ∷ es) fs p q =
@@ -71,8 +76,10 @@ pub undoable-le : (keys count : ℕ) (es : List UndoLog) → undoable keys count
 unfolding undoable
 undoable-le keys count [] p = omega (arith, eqb-true count keys p)
 undoable-le keys count (NewElem key ∷ es) p =
-    let (a, b) = and-eq-true-iff (eqb (key + 1) count) (undoable keys key es) .0 p in omega (arith, eqb-true (key + 1) count a, undoable-le keys key es b)
-undoable-le keys count (SetElem key old ∷ es) p = undoable-le keys count es (and-eq-true-iff (ltb key count) (undoable keys count es) .0 p .1)
+    let (a, b) = and-eq-true-iff (eqb (key + 1) count) (undoable keys key es) .0 p in
+    omega (arith, eqb-true (key + 1) count a, undoable-le keys key es b)
+undoable-le keys count (SetElem key old ∷ es) p =
+    undoable-le keys count es (and-eq-true-iff (ltb key count) (undoable keys count es) .0 p .1)
 undoable-le keys count (Unknown ∷ es) p = absurd (true≢false (sym p))
 
 wide-reversed : (rs : Rows) (room : ℕ) (e : UndoLog) → WideRows rs room → WideRows (reversed rs e) room
@@ -86,7 +93,8 @@ wide-undo rs room [] w = w
 wide-undo rs room (e ∷ es) w = wide-undo (reversed rs e) room es (wide-reversed rs room e w)
 
 -- Rows that are the same below the count are so after undoing.
-pub undo-alike : (room keys count : ℕ) (es : List UndoLog) (rs rs′ : Rows) → count ≤ room → WideRows rs room → WideRows rs′ room → undoable keys count es ≡ true
+pub undo-alike : (room keys count : ℕ) (es : List UndoLog) (rs rs′ : Rows) → count ≤ room → WideRows rs room → WideRows rs′ room
+    → undoable keys count es ≡ true
     → Alike count rs rs′ → Alike keys (undo rs es) (undo rs′ es)
 unfolding undo undoable
 undo-alike room keys count [] rs rs′ f w w′ p a = λ i h. a i (omega (arith, eqb-true count keys p))
@@ -103,13 +111,16 @@ undo-alike room keys count (Unknown ∷ es) rs rs′ f w w′ p a = absurd (true
 
 -- ---- which entries they are
 
-pub newest-same : (l l′ : Log) (base n used : ℕ) → base + n ≤ used → ((j : ℕ) → j < used → entryAt l′ j ≡ entryAt l j) → newestFirst l′ base n ≡ newestFirst l base n
+pub newest-same : (l l′ : Log) (base n used : ℕ) → base + n ≤ used → ((j : ℕ) → j < used → entryAt l′ j ≡ entryAt l j)
+    → newestFirst l′ base n ≡ newestFirst l base n
 unfolding newestFirst
 newest-same l l′ base zero used h same = refl
 newest-same l l′ base (suc n) used h same =
-    rw (same (base + n) (omega arith)) (ap (λ (z : List UndoLog). entryAt l (base + n) ∷ z) (newest-same l l′ base n used (omega arith) same))
+    rw (same (base + n) (omega arith)) (ap (λ (z : List UndoLog). entryAt l (base + n) ∷ z)
+    (newest-same l l′ base n used (omega arith) same))
 
-pub newest-more : (l l′ : Log) (base used used′ : ℕ) (e : UndoLog) → used′ ≡ used + 1 → base ≤ used → ((j : ℕ) → j < used → entryAt l′ j ≡ entryAt l j) → entryAt l′ used ≡ e
+pub newest-more : (l l′ : Log) (base used used′ : ℕ) (e : UndoLog) → used′ ≡ used + 1 → base ≤ used
+    → ((j : ℕ) → j < used → entryAt l′ j ≡ entryAt l j) → entryAt l′ used ≡ e
     → newestFirst l′ base (used′ - base) ≡ e ∷ newestFirst l base (used - base)
 unfolding newestFirst
 newest-more l l′ base used used′ e u h same hit =
@@ -132,27 +143,42 @@ made-alike {rs} rs′ {count} {ds} a M =
     record { accepted = M .accepted; counted = M .counted; shows = shows-alike (M .shows) rs′ (λ i h. a i (rw (M .counted) at h)) }
 
 -- In a log that is the same up to its used length.
-pub back-log : (l l′ : Log) (marks : ℕ → Mark) (used count : ℕ) (rs : Rows) (xs : List Saved) → ((j : ℕ) → j < used → entryAt l′ j ≡ entryAt l j)
+pub back-log : (l l′ : Log) (marks : ℕ → Mark) (used count : ℕ) (rs : Rows) (xs : List Saved)
+    → ((j : ℕ) → j < used → entryAt l′ j ≡ entryAt l j)
     → LeadsBack l marks used count rs xs → LeadsBack l′ marks used count rs xs
 back-log l l′ marks used count rs [] same b = b
 back-log l l′ marks used count rs (x ∷ xs) same b =
     let (token, len, able, made, rest) = b in
     let m : Mark = marks (length xs) in
-    rw (newest-same l l′ (m .«log_len») (used - m .«log_len») used (omega arith) same)
-    (token, len, able, made, back-log l l′ marks (m .«log_len») (m .keys) (undo rs (newestFirst l (m .«log_len») (used - m .«log_len»))) xs (λ j h. same j (omega arith)) rest)
+    rw (newest-same l l′ (m .«log_len») (used - m .«log_len») used (omega arith) same) (
+      token,
+      len,
+      able,
+      made,
+      back-log l l′ marks (m .«log_len») (m .keys) (undo rs (newestFirst l (m .«log_len») (used - m .«log_len»)))
+          xs (λ j h. same j (omega arith)) rest,
+    )
 
 -- Under marks that are the same for the snapshots that are open.
-pub back-marks : (l : Log) (marks marks′ : ℕ → Mark) (used count : ℕ) (rs : Rows) (xs : List Saved) → ((k : ℕ) → k < length xs → marks′ k ≡ marks k)
+pub back-marks : (l : Log) (marks marks′ : ℕ → Mark) (used count : ℕ) (rs : Rows) (xs : List Saved)
+    → ((k : ℕ) → k < length xs → marks′ k ≡ marks k)
     → LeadsBack l marks used count rs xs → LeadsBack l marks′ used count rs xs
 back-marks l marks marks′ used count rs [] same b = b
 back-marks l marks marks′ used count rs (x ∷ xs) same b =
     let (token, len, able, made, rest) = b in
     let m : Mark = marks (length xs) in
-    rw (same (length xs) (le-refl (suc (length xs))))
-    (token, len, able, made, back-marks l marks marks′ (m .«log_len») (m .keys) (undo rs (newestFirst l (m .«log_len») (used - m .«log_len»))) xs (λ k h. same k (omega arith)) rest)
+    rw (same (length xs) (le-refl (suc (length xs)))) (
+      token,
+      len,
+      able,
+      made,
+      back-marks l marks marks′ (m .«log_len») (m .keys)
+          (undo rs (newestFirst l (m .«log_len») (used - m .«log_len»))) xs (λ k h. same k (omega arith)) rest,
+    )
 
 -- From rows that are the same below the count.
-pub back-alike : (room : ℕ) (l : Log) (marks : ℕ → Mark) (used count : ℕ) (rs rs′ : Rows) (xs : List Saved) → count ≤ room → WideRows rs room → WideRows rs′ room → Alike count rs rs′
+pub back-alike : (room : ℕ) (l : Log) (marks : ℕ → Mark) (used count : ℕ) (rs rs′ : Rows) (xs : List Saved) → count ≤ room
+    → WideRows rs room → WideRows rs′ room → Alike count rs rs′
     → LeadsBack l marks used count rs xs → LeadsBack l marks used count rs′ xs
 back-alike room l marks used count rs rs′ [] f w w′ a b = b
 back-alike room l marks used count rs rs′ (x ∷ xs) f w w′ a b =
@@ -164,11 +190,13 @@ back-alike room l marks used count rs rs′ (x ∷ xs) f w w′ a b =
       len,
       able,
       made-alike (undo rs′ es) a′ made,
-      back-alike room l marks (m .«log_len») (m .keys) (undo rs es) (undo rs′ es) xs (omega (arith, undoable-le (m .keys) count es able)) (wide-undo rs room es w) (wide-undo rs′ room es w′) a′ rest,
+      back-alike room l marks (m .«log_len») (m .keys) (undo rs es) (undo rs′ es) xs
+          (omega (arith, undoable-le (m .keys) count es able)) (wide-undo rs room es w) (wide-undo rs′ room es w′) a′ rest,
     )
 
 -- With one entry more, whose undoing gives back what it was before.
-pub back-entry : (l l′ : Log) (marks : ℕ → Mark) (used used′ count count′ : ℕ) (rs rs′ : Rows) (x : Saved) (xs : List Saved) (e : UndoLog) → used′ ≡ used + 1
+pub back-entry : (l l′ : Log) (marks : ℕ → Mark) (used used′ count count′ : ℕ) (rs rs′ : Rows) (x : Saved) (xs : List Saved) (e : UndoLog)
+    → used′ ≡ used + 1
     → ((j : ℕ) → j < used → entryAt l′ j ≡ entryAt l j) → entryAt l′ used ≡ e
     → reversed rs′ e ≡ rs → ((keys : ℕ) (es : List UndoLog) → undoable keys count es ≡ true → undoable keys count′ (e ∷ es) ≡ true)
     → LeadsBack l marks used count rs (x ∷ xs) → LeadsBack l′ marks used′ count′ rs′ (x ∷ xs)
@@ -177,9 +205,17 @@ back-entry l l′ marks used used′ count count′ rs rs′ x xs e u same hit u
     let (token, len, able, made, rest) = b in
     let m : Mark = marks (length xs) in
     let es : List UndoLog = newestFirst l (m .«log_len») (used - m .«log_len») in
-    let q : newestFirst l′ (m .«log_len») (used′ - m .«log_len») ≡ e ∷ es = newest-more l l′ (m .«log_len») used used′ e u len same hit in
+    let q : newestFirst l′ (m .«log_len») (used′ - m .«log_len») ≡ e ∷ es =
+    newest-more l l′ (m .«log_len») used used′ e u len same hit in
     let r : undo rs′ (e ∷ es) ≡ undo rs es = ap (λ (z : Rows). undo z es) un in
-    rw (q, r) (token, omega arith, able′ (m .keys) es able, made, back-log l l′ marks (m .«log_len») (m .keys) (undo rs es) xs (λ j h. same j (omega arith)) rest)
+    rw (q, r) (
+      token,
+      omega arith,
+      able′ (m .keys) es able,
+      made,
+      back-log l l′ marks (m .«log_len») (m .keys) (undo rs es) xs
+          (λ j h. same j (omega arith)) rest,
+    )
 
 -- The innermost mark but one leads back over the entries of both.
 pub back-commit : (l : Log) (marks : ℕ → Mark) (used count : ℕ) (rs : Rows) (x y : Saved) (zs : List Saved)
@@ -195,7 +231,13 @@ back-commit l marks used count rs x y zs b =
     let q : newestFirst l (m′ .«log_len») (used - m′ .«log_len») ≡ young ++ old =
     newest-split l (m′ .«log_len») (m .«log_len» - m′ .«log_len») (used - m .«log_len») (used - m′ .«log_len») (omega arith)
     ∙ ap (λ (n : ℕ). newestFirst l n (used - m .«log_len») ++ old) z in
-    rw (q, undo-append rs young old) (token′, omega arith, undoable-append (m′ .keys) (m .keys) count young old able able′, made′, rest′)
+    rw (q, undo-append rs young old) (
+      token′,
+      omega arith,
+      undoable-append (m′ .keys) (m .keys) count young old able able′,
+      made′,
+      rest′,
+    )
 
 -- No open mark is past the used log or the count.
 pub back-fits : (l : Log) (marks : ℕ → Mark) (used count : ℕ) (rs : Rows) (xs : List Saved) → LeadsBack l marks used count rs xs

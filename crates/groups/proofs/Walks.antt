@@ -83,7 +83,8 @@ module _ {rs : Rows} {g : Groups} {room : ℕ} (H : Holds rs g room) where
 
   module _ (i : ℕ) (h : i < g .count) where
     root-rank : high rs (g .root i) ≡ g .rank (g .root i)
-    root-rank = H .shows .ranks (g .root i) (H .whole .within i h) (is-root (H .shows) (g .root i) (H .whole .within i h) (H .whole .settled i))
+    root-rank =
+        H .shows .ranks (g .root i) (H .whole .within i h) (is-root (H .shows) (g .root i) (H .whole .within i h) (H .whole .settled i))
 
     -- "16 redirects in a walk" are enough.
     pub reaches : Reaches rs g MAX-REDIRECTS i
@@ -92,7 +93,9 @@ module _ {rs : Rows} {g : Groups} {room : ℕ} (H : Holds rs g room) where
 
     -- 2 to the power of a walk's steps is at most the number of keys in its group.
     pub log2-bound : 2 ^ length (reaches .passed) ≤ size (g .root) (g .count) (g .root i)
-    log2-bound = le-trans (pow-mono (omega (arith, reaches .climbs, root-rank))) (H .whole .big (g .root i) (H .whole .within i h) (H .whole .settled i))
+    log2-bound =
+        le-trans (pow-mono (omega (arith, reaches .climbs, root-rank)))
+        (H .whole .big (g .root i) (H .whole .within i h) (H .whole .settled i))
 
 -- ---- what is written
 
@@ -122,7 +125,8 @@ module _ {g : Groups} {room : ℕ} (r : ℕ) where
       let room-x : x < room = omega (arith, H .fits) in
       record {
         shows = subst (λ (z : ℕ). Shows (write rs (redirect x z)) g) e
-            (compressed (H .shows) (H .whole) (putRow rs x to-root) x h (λ q. d (sym q ∙ e)) (wrote rs room x to-root (H .wide) room-x (real-owner (getD (rs .owners) x 0))));
+            (compressed (H .shows) (H .whole) (putRow rs x to-root) x h (λ q. d (sym q ∙ e))
+            (wrote rs room x to-root (H .wide) room-x (real-owner (getD (rs .owners) x 0))));
         whole = H .whole;
         wide = wide-put rs room x (edit (redirect x r) (rowAt rs x)) (H .wide);
         fits = H .fits;
@@ -141,4 +145,5 @@ pub rewrites-inside : (g : Groups) (r : ℕ) (passed : List ℕ) → Under g r p
 unfolding rewrites
 rewrites-inside g r [] u = tt
 rewrites-inside g r (x ∷ []) u = tt
-rewrites-inside g r (x ∷ y ∷ zs) u = inside-append (g .count) (rewrites r (y ∷ zs)) (redirect x r ∷ []) (rewrites-inside g r (y ∷ zs) (u .3)) (u .0, tt)
+rewrites-inside g r (x ∷ y ∷ zs) u =
+    inside-append (g .count) (rewrites r (y ∷ zs)) (redirect x r ∷ []) (rewrites-inside g r (y ∷ zs) (u .3)) (u .0, tt)

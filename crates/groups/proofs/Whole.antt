@@ -104,7 +104,8 @@ module _ (g : Groups) (W : Whole g) (a b : ℕ) (ha : a < g .count) (hb : b < g 
 
 -- The roots were the same and nothing moves, or one group is hung under the other.
 pub join-cases : (P : Groups → Type 0) (g : Groups) → Whole g → (a b : ℕ) → Accepts g (joined a b)
-    → (g .root a ≡ g .root b → P g) → ((low high k : ℕ) (v : Value) → Hangs g a b low high k v → P (hung g low high k v)) → P (step g (joined a b))
+    → (g .root a ≡ g .root b → P g) → ((low high k : ℕ) (v : Value) → Hangs g a b low high k v → P (hung g low high k v))
+    → P (step g (joined a b))
 unfolding step
 join-cases P g W a b acc f h =
     let (ha, hb, t) = acc in
@@ -113,7 +114,8 @@ join-cases P g W a b acc f h =
     bySame r s
     (λ e. rw (eq-eqb r s e) (f e))
     (λ d. either t (λ e. absurd (d e)) (λ m. rw (ne-eqb r s d, m .1)
-    (by-rank (λ (_ : ℕ) (g′ : Groups). P g′) (g .rank r) (g .rank s) (λ k. k) (λ k. k) (λ k. hung g s r k (m .0)) (λ k. hung g r s k (m .0))
+    (by-rank (λ (_ : ℕ) (g′ : Groups). P g′) (g .rank r) (g .rank s) (λ k. k) (λ k. k) (λ k. hung g s r k (m .0))
+    (λ k. hung g r s k (m .0))
     (λ k q. h s r k (m .0) (hangs-b g W a b ha hb d (m .0) (m .1) k q))
     (λ k q. h r s k (m .0) (hangs-a g W a b ha hb d (m .0) (m .1) k q)))))
 
@@ -126,7 +128,8 @@ module _ {g : Groups} (W : Whole g) where
       let el : g .root low ≡ low = H .low-root in
       let eh : g .root high ≡ high = H .high-root in
       let root : ℕ → ℕ = g .root in
-      let stays : (i : ℕ) → root i ≢ low → shift root low high (root i) ≡ root i = λ i q. shift-miss root low high (root i) (λ z. q (sym (W .settled i) ∙ z)) ∙ W .settled i in
+      let stays : (i : ℕ) → root i ≢ low → shift root low high (root i) ≡ root i =
+      λ i q. shift-miss root low high (root i) (λ z. q (sym (W .settled i) ∙ z)) ∙ W .settled i in
       let top : shift root low high high ≡ high = shift-miss root low high high (λ z. d (sym z ∙ eh)) ∙ eh in
       record {
         outside = λ i h. shift-miss root low high i (λ e. omega (arith, W .outside i h, H .low-live)) ∙ W .outside i h;
@@ -139,8 +142,16 @@ module _ {g : Groups} (W : Whole g) where
         big = λ q h e. either (hung-roots H q e)
             (λ m. subst⁻¹ (λ (z : ℕ). 2 ^ at high k (g .rank) z ≤ size (shift root low high) (g .count) z) m
             (rw (at-hit high k (g .rank) high refl)
-            (omega (arith, H .ranked .doubles, total-shift root low high d (ones (g .count)), W .big low (H .low-live) el, W .big high (H .high-live) eh))))
-            (λ m. rw (at-miss high k (g .rank) q (m .1), total-shift-other root low high q (m .0) (m .1) (ones (g .count))) (W .big q h (m .2)));
+            (omega (
+              arith,
+              H .ranked .doubles,
+              total-shift root low high d (ones (g .count)),
+              W .big low (H .low-live) el,
+              W .big high
+                  (H .high-live) eh,
+            ))))
+            (λ m. rw (at-miss high k (g .rank) q (m .1), total-shift-other root low high q (m .0) (m .1) (ones (g .count)))
+            (W .big q h (m .2)));
       }
 
   pub step-whole : (d : Deed) → Accepts g d → Whole (step g d)
@@ -157,7 +168,8 @@ module _ {g : Groups} (W : Whole g) where
             (λ q. rw (at-miss key 0 (g .rank) r (λ z. omega arith)) (omega (arith, W .big r q m)));
       }
   step-whole (joined a b) acc = join-cases Whole g W a b acc (λ _. W) (hung-whole a b)
-  step-whole (posted key v) acc = rw (acc .1 .1) (record { outside = W .outside; within = W .within; settled = W .settled; big = W .big })
+  step-whole (posted key v) acc =
+      rw (acc .1 .1) (record { outside = W .outside; within = W .within; settled = W .settled; big = W .big })
 
 pub no-groups : Whole noGroups
 no-groups = record { outside = λ i h. refl; within = λ i h. h; settled = λ i. refl; big = λ r h. absurd (not-suc-le-zero h) }

@@ -84,7 +84,8 @@ Merges v w = (x : Value) × (merge v w ≡ Both x)
 
 abbrev pub Accepts : Groups → Deed → Type 0
 Accepts g (created key v) = key ≡ g .count
-Accepts g (joined a b) = (a < g .count) × (b < g .count) × ((g .root a ≡ g .root b) ⊎ Merges (g .value (g .root a)) (g .value (g .root b)))
+Accepts g (joined a b) =
+    (a < g .count) × (b < g .count) × ((g .root a ≡ g .root b) ⊎ Merges (g .value (g .root a)) (g .value (g .root b)))
 Accepts g (posted key v) = (key < g .count) × Merges (g .value (g .root key)) v
 
 abbrev pub Accepted : List Deed → Type 0

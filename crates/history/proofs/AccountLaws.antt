@@ -42,7 +42,8 @@ values-one : (v : Value) → Values v (v .amount) (λ n. namedBy n (v .owner))
 values-one v = record { sum = refl; owned = λ n. naming n (v .owner) }
 
 -- A merge's.
-values-both : {v w : Value} {p q : ℕ} {f g : ℕ → ℕ} → Values v p f → Values w q g → (x : Value) → merge v w ≡ Both x → Values x (p + q) (λ n. f n + g n)
+values-both : {v w : Value} {p q : ℕ} {f g : ℕ → ℕ} → Values v p f → Values w q g → (x : Value) → merge v w ≡ Both x
+    → Values x (p + q) (λ n. f n + g n)
 values-both {v} {w} {p} {q} {f} {g} P Q x e =
     let S = merge-sum v w x e in
     record {
@@ -55,7 +56,8 @@ values-both {v} {w} {p} {q} {f} {g} P Q x e =
       );
     }
 
-values-as : {v : Value} {p : ℕ} {f : ℕ → ℕ} → Values v p f → (v′ : Value) (p′ : ℕ) (f′ : ℕ → ℕ) → v′ ≡ v → p′ ≡ p → ((n : ℕ) → f′ n ≡ f n) → Values v′ p′ f′
+values-as : {v : Value} {p : ℕ} {f : ℕ → ℕ} → Values v p f → (v′ : Value) (p′ : ℕ) (f′ : ℕ → ℕ) → v′ ≡ v → p′ ≡ p
+    → ((n : ℕ) → f′ n ≡ f n) → Values v′ p′ f′
 values-as {v} {p} {f} P v′ p′ f′ a b c =
     record { sum = ap (λ (z : Value). z .amount) a ∙ P .sum ∙ sym b; owned = λ n. rw (a, c n) (P .owned n) }
 
@@ -63,7 +65,8 @@ values-as {v} {p} {f} P v′ p′ f′ a b c =
 
 pub record Account (g : Groups) (ds : List Deed) : Type 0 where
   pub links : Links (joins ds) (g .root)
-  pub values : (r : ℕ) → r < g .count → g .root r ≡ r → Values (g .value r) (total (g .root) r (byteSeconds ds)) (λ n. total (g .root) r (namings n ds))
+  pub values : (r : ℕ) → r < g .count → g .root r ≡ r
+      → Values (g .value r) (total (g .root) r (byteSeconds ds)) (λ n. total (g .root) r (namings n ds))
   pub keys : createdKeys ds ≡ downFrom (g .count)
   pub below : (weigh : Value → ℕ) → Below (g .count) (credits weigh ds)
 
@@ -128,7 +131,8 @@ module _ {g : Groups} {ds : List Deed} (W : Whole g) (A : Account g ds) where
         let T = A .values high (H .high-live) (H .high-root) in
         either (H .which)
         (λ q. values-both L T v (ap₂ (λ (x y : ℕ). merge (g .value x) (g .value y)) (q .0) (q .1) ∙ H .merged))
-        (λ q. values-as (values-both T L v (ap₂ (λ (x y : ℕ). merge (g .value x) (g .value y)) (q .1) (q .0) ∙ H .merged)) _ _ _ refl (omega arith) (λ n. omega arith))
+        (λ q. values-as (values-both T L v (ap₂ (λ (x y : ℕ). merge (g .value x) (g .value y)) (q .1) (q .0) ∙ H .merged)) _ _ _ refl
+        (omega arith) (λ n. omega arith))
 
     hung-account : Account (hung g low high k v) (joined a b ∷ ds)
     hung-account =

@@ -35,7 +35,8 @@ no-links = record { reach = λ x. same refl; agree = λ a b m. absurd (List·Mem
 
 module _ {js : Pairs} {root : ℕ → ℕ} (k : Links js root) (a b : ℕ) where
   -- The new pair's own case, and the older pairs'.
-  agreeing : (f : ℕ → ℕ) → f a ≡ f b → ((x y : ℕ) → root x ≡ root y → f x ≡ f y) → (x y : ℕ) → List·Memᴰ (x, y) ((a, b) ∷ js) → f x ≡ f y
+  agreeing : (f : ℕ → ℕ) → f a ≡ f b → ((x y : ℕ) → root x ≡ root y → f x ≡ f y) → (x y : ℕ) → List·Memᴰ (x, y) ((a, b) ∷ js)
+      → f x ≡ f y
   agreeing f e g x y m =
       either (List·Memᴰ·cases-cons m)
       (λ q. ap (λ (z : ℕ × ℕ). f (z .0)) q ∙ e ∙ sym (ap (λ (z : ℕ × ℕ). f (z .1)) q))
@@ -50,7 +51,8 @@ module _ {js : Pairs} {root : ℕ → ℕ} (k : Links js root) (a b : ℕ) where
   roots-linked = chain (flip (weaken (a, b) (k .reach a))) (chain (join (List·Memᴰ·head refl)) (weaken (a, b) (k .reach b)))
 
   -- One of the two groups goes into the other.
-  pub links-hung : (low high : ℕ) → ((low ≡ root a) × (high ≡ root b)) ⊎ ((low ≡ root b) × (high ≡ root a)) → Links ((a, b) ∷ js) (shift root low high)
+  pub links-hung : (low high : ℕ) → ((low ≡ root a) × (high ≡ root b)) ⊎ ((low ≡ root b) × (high ≡ root a))
+      → Links ((a, b) ∷ js) (shift root low high)
   links-hung low high w = record {
     reach = λ x. bySame (root x) low
         (λ e. subst⁻¹ (λ (z : ℕ). Linked ((a, b) ∷ js) x z) (shift-hit root low high x e)
@@ -63,8 +65,10 @@ module _ {js : Pairs} {root : ℕ → ℕ} (k : Links js root) (a b : ℕ) where
     where
       linked : Linked ((a, b) ∷ js) low high
       linked = either w
-          (λ q. subst⁻¹ (λ (z : ℕ). Linked ((a, b) ∷ js) z high) (q .0) (subst⁻¹ (λ (z : ℕ). Linked ((a, b) ∷ js) (root a) z) (q .1) roots-linked))
-          (λ q. subst⁻¹ (λ (z : ℕ). Linked ((a, b) ∷ js) z high) (q .0) (subst⁻¹ (λ (z : ℕ). Linked ((a, b) ∷ js) (root b) z) (q .1) (flip roots-linked)))
+          (λ q. subst⁻¹ (λ (z : ℕ). Linked ((a, b) ∷ js) z high) (q .0)
+          (subst⁻¹ (λ (z : ℕ). Linked ((a, b) ∷ js) (root a) z) (q .1) roots-linked))
+          (λ q. subst⁻¹ (λ (z : ℕ). Linked ((a, b) ∷ js) z high) (q .0)
+          (subst⁻¹ (λ (z : ℕ). Linked ((a, b) ∷ js) (root b) z) (q .1) (flip roots-linked)))
 
       -- A key whose root is `high` has it still.
       goes : (x : ℕ) → root x ≡ high → shift root low high x ≡ high

@@ -31,7 +31,8 @@ dropped-falls : (b : ℕ) (xs : List Saved) → Falls b xs → Falls b (dropped 
 dropped-falls b [] f = tt
 dropped-falls b (x ∷ xs) f = falls-wide (x .token) b xs (omega (arith, f .0)) (f .1)
 
-falls-on : (a : Act) (t : ℕ) (g : Track) → Follows t (g .saved) a → Falls (suc t) (g .saved) → Falls (suc (newer t a)) (noted g a .saved)
+falls-on : (a : Act) (t : ℕ) (g : Track) → Follows t (g .saved) a → Falls (suc t) (g .saved)
+    → Falls (suc (newer t a)) (noted g a .saved)
 falls-on idle t g p f = f
 falls-on (moves d) t g p f = f
 falls-on (takes token) t g p f = (le-refl (suc token), falls-wide (suc t) token (g .saved) p f)
@@ -46,14 +47,16 @@ falls (e ∷ h) o = falls-on (act e) (lastToken h) (track h) (o .0) (falls h (o 
 without-falls : (token b : ℕ) (xs : List Saved) → b ≤ token → Falls b xs → without token (tokens xs) ≡ tokens xs
 without-falls token b [] h f = refl
 without-falls token b (x ∷ xs) h f =
-    rw (ne-eqb (x .token) token (λ e. omega (arith, f .0))) (ap (λ (z : List ℕ). x .token ∷ z) (without-falls token (x .token) xs (omega (arith, f .0)) (f .1)))
+    rw (ne-eqb (x .token) token (λ e. omega (arith, f .0)))
+    (ap (λ (z : List ℕ). x .token ∷ z) (without-falls token (x .token) xs (omega (arith, f .0)) (f .1)))
 
 -- The innermost token is dropped, and no other.
 without-first : (token b : ℕ) (xs : List Saved) → Innermost token xs → Falls b xs → without token (tokens xs) ≡ tokens (dropped xs)
 without-first token b [] p f = absurd p
 without-first token b (x ∷ xs) p f = rw (eq-eqb (x .token) token p) (without-falls token (x .token) xs (omega arith) (f .1))
 
-opening-on : (a : Act) (t : ℕ) (g : Track) → Follows t (g .saved) a → Falls (suc t) (g .saved) → opening a (tokens (g .saved)) ≡ tokens (noted g a .saved)
+opening-on : (a : Act) (t : ℕ) (g : Track) → Follows t (g .saved) a → Falls (suc t) (g .saved)
+    → opening a (tokens (g .saved)) ≡ tokens (noted g a .saved)
 opening-on idle t g p f = refl
 opening-on (moves d) t g p f = refl
 opening-on (takes token) t g p f = refl
@@ -78,7 +81,8 @@ chosen-miss later now (x ∷ xs) e =
     (λ q. absurd (true≢false (rw q at e)))
     (λ q. rw q (chosen-miss later now xs (rw q at e)))
 
-chosen-hit : (later : ℕ → Bool) (now now′ : List Deed) (xs : List Saved) → anyOf later (tokens xs) ≡ true → chosen later now xs ≡ chosen later now′ xs
+chosen-hit : (later : ℕ → Bool) (now now′ : List Deed) (xs : List Saved) → anyOf later (tokens xs) ≡ true
+    → chosen later now xs ≡ chosen later now′ xs
 chosen-hit later now now′ [] e = absurd (true≢false (sym e))
 chosen-hit later now now′ (x ∷ xs) e = cases (later (x .token)) (λ q. rw q) (λ q. rw q (chosen-hit later now now′ xs (rw q at e)))
 
@@ -112,7 +116,8 @@ due-dropped : (later : ℕ → Bool) (t : ℕ) (xs : List Saved) → Due later t
 due-dropped later t [] d = d
 due-dropped later t (x ∷ xs) d = λ u q. either (d u q) (λ m. inl (more (eqb u (x .token)) (anyOf (eqb u) (tokens xs)) m)) (λ m. inr m)
 
-due-on : (a : Act) (later : ℕ → Bool) (t : ℕ) (g : Track) → Follows t (g .saved) a → Due later (newer t a) (noted g a .saved) → Due (λ u. undoesIt u a || later u) t (g .saved)
+due-on : (a : Act) (later : ℕ → Bool) (t : ℕ) (g : Track) → Follows t (g .saved) a → Due later (newer t a) (noted g a .saved)
+    → Due (λ u. undoesIt u a || later u) t (g .saved)
 due-on idle later t g p d = d
 due-on (moves d′) later t g p d = d
 due-on (takes token) later t g p d = λ u q. either (d u q)
@@ -134,26 +139,31 @@ either-way true x = refl
 either-way false x = refl
 
 -- `old` is what is left of the calls before, once it is known what this one undoes.
-agree-on : (a : Act) (later : ℕ → Bool) (t : ℕ) (g : Track) → Follows t (g .saved) a → Falls (suc t) (g .saved) → Due later (newer t a) (noted g a .saved)
+agree-on : (a : Act) (later : ℕ → Bool) (t : ℕ) (g : Track) → Follows t (g .saved) a → Falls (suc t) (g .saved)
+    → Due later (newer t a) (noted g a .saved)
     → (old : List Deed) → old ≡ chosen (λ u. undoesIt u a || later u) (g .now) (g .saved)
     → cond (anyOf later (tokens (g .saved))) old (deedOf a ++ old) ≡ chosen later (noted g a .now) (noted g a .saved)
 agree-on idle later t g p f d old e = either-way (anyOf later (tokens (g .saved))) old ∙ e
 agree-on (moves x) later t g p f d old e =
     cases (anyOf later (tokens (g .saved)))
     (λ q. rw q (e ∙ chosen-hit later (g .now) (x ∷ g .now) (g .saved) q))
-    (λ q. rw (q, chosen-miss later (x ∷ g .now) (g .saved) q) (ap (λ (z : List Deed). x ∷ z) (e ∙ chosen-miss later (g .now) (g .saved) q)))
+    (λ q. rw (q, chosen-miss later (x ∷ g .now) (g .saved) q)
+    (ap (λ (z : List Deed). x ∷ z) (e ∙ chosen-miss later (g .now) (g .saved) q)))
 agree-on (takes token) later t g p f d old e =
-    either-way (anyOf later (tokens (g .saved))) old ∙ e ∙ ap (λ (z : List Deed). chosen later z (g .saved)) (sym (either-way (later token) (g .now)))
+    either-way (anyOf later (tokens (g .saved))) old ∙ e ∙ ap (λ (z : List Deed). chosen later z (g .saved))
+    (sym (either-way (later token) (g .now)))
 agree-on (undoes token) later t g p f d old e =
     either-way (anyOf later (tokens (g .saved))) old ∙ e ∙ undone (g .saved) p f
   where
-    undone : (xs : List Saved) → Innermost token xs → Falls (suc t) xs → chosen (λ u. eqb u token || later u) (g .now) xs ≡ chosen later (restored (g .now) xs) (dropped xs)
+    undone : (xs : List Saved) → Innermost token xs → Falls (suc t) xs
+        → chosen (λ u. eqb u token || later u) (g .now) xs ≡ chosen later (restored (g .now) xs) (dropped xs)
     undone [] i f = absurd i
     undone (x ∷ xs) i f = rw (eq-eqb (x .token) token i) (chosen-skip token later (x .deeds) (x .token) xs (omega arith) (f .1))
 agree-on (closes token) later t g p f d old e =
     either-way (anyOf later (tokens (g .saved))) old ∙ e ∙ closed (g .saved) p f d
   where
-    closed : (xs : List Saved) → Innermost token xs → Falls (suc t) xs → Due later t (dropped xs) → chosen later (g .now) xs ≡ chosen later (g .now) (dropped xs)
+    closed : (xs : List Saved) → Innermost token xs → Falls (suc t) xs → Due later t (dropped xs)
+        → chosen later (g .now) xs ≡ chosen later (g .now) (dropped xs)
     closed [] i f d = absurd i
     closed (x ∷ xs) i f d = cases (later (x .token))
         (λ q. absurd (either (d (x .token) q)
@@ -164,7 +174,8 @@ agree-on (closes token) later t g p f d old e =
 -- ---- and of a whole history
 
 -- A call that is not rolled back leaves its deed; a refused one has none.
-deeds-on : (b done : Bool) (e : Event) (rest : History) → isDone e ≡ done → deeds (cond (done && not b) (e ∷ rest) rest) ≡ cond b (deeds rest) (deedOf (act e) ++ deeds rest)
+deeds-on : (b done : Bool) (e : Event) (rest : History) → isDone e ≡ done
+    → deeds (cond (done && not b) (e ∷ rest) rest) ≡ cond b (deeds rest) (deedOf (act e) ++ deeds rest)
 deeds-on true true e rest q = refl
 deeds-on true false e rest q = refl
 deeds-on false true e rest q = refl
@@ -176,7 +187,8 @@ unfolding Orderly lastToken track survivors undoneIn
 survive-later [] o later d = refl
 survive-later (e ∷ h) o later d =
     deeds-on (rolledBack h later) (isDone e) e (survivors (e ∷ later) h) refl
-    ∙ ap (λ (ts : List ℕ). cond (anyOf (undoneIn later) ts) (deeds (survivors (e ∷ later) h)) (deedOf (act e) ++ deeds (survivors (e ∷ later) h))) (open-tokens h (o .1))
+    ∙ ap (λ (ts : List ℕ). cond (anyOf (undoneIn later) ts) (deeds (survivors (e ∷ later) h))
+    (deedOf (act e) ++ deeds (survivors (e ∷ later) h))) (open-tokens h (o .1))
     ∙ agree-on (act e) (undoneIn later) (lastToken h) (track h) (o .0) (falls h (o .1)) d (deeds (survivors (e ∷ later) h))
     (survive-later h (o .1) (e ∷ later) (due-on (act e) (undoneIn later) (lastToken h) (track h) (o .0) d))
 
@@ -189,4 +201,5 @@ none-undone (x ∷ xs) = none-undone xs
 pub surviving-is : (h : History) → Orderly h → surviving h ≡ track h .now
 unfolding undoneIn
 surviving-is h o =
-    survive-later h o [] (λ u q. absurd (true≢false (sym q))) ∙ chosen-miss (undoneIn []) (track h .now) (track h .saved) (none-undone (track h .saved))
+    survive-later h o [] (λ u q. absurd (true≢false (sym q))) ∙ chosen-miss (undoneIn []) (track h .now) (track h .saved)
+    (none-undone (track h .saved))

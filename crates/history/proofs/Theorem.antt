@@ -56,17 +56,21 @@ refuse-done : (b : Bool) (n : ℕ) (t : Table) (rest : Outcome) → eqb n DONE �
 refuse-done true n t rest e q = absurd (eqb-false n DONE e q)
 refuse-done false n t rest e q = (refl, q)
 
-find-goes : (rs : Rows) (p : Path) → goOn rs findOn p .answer .no ≡ DONE → goOn rs findOn p .answer ≡ found (endOf p) (length (passedBy p))
+find-goes : (rs : Rows) (p : Path) → goOn rs findOn p .answer .no ≡ DONE
+    → goOn rs findOn p .answer ≡ found (endOf p) (length (passedBy p))
 find-goes rs broken e = absurd (omega arith)
 find-goes rs (to root passed) e = refl
 
-find-answers : (t : Table) (key : ℕ) → step t (Find key) .answer .no ≡ DONE → step t (Find key) .answer ≡ found (rootOf t key) (stepsOf t key)
+find-answers : (t : Table) (key : ℕ) → step t (Find key) .answer .no ≡ DONE
+    → step t (Find key) .answer ≡ found (rootOf t key) (stepsOf t key)
 unfolding step call
 find-answers t key e =
     let p : Plan = goOn (t .rows) findOn (walkOf t key) in
     let (a, e₁) = refuse-done (bad (sizesOf t) (t .state)) BAD-STATE t (live t key p) refl e in
     let (b, e₂) = refuse-done (notLive t key) NO-KEY t (carry t p) refl e₁ in
-    let (c, e₃) = refuse-done (full (memoryOf t) (length (p .todo))) LOG-FULL t (outcome (p .answer) (withMemory t (puts (memoryOf t) (p .todo)))) refl e₂ in
+    let (c, e₃) =
+    refuse-done (full (memoryOf t) (length (p .todo))) LOG-FULL t (outcome (p .answer) (withMemory t (puts (memoryOf t) (p .todo))))
+    refl e₂ in
     a ∙ b ∙ c ∙ find-goes (t .rows) (walkOf t key) e₃
 
 -- ---- any table that stands for a history
@@ -89,13 +93,19 @@ stands-demand t h S peace =
     let A : Account g ds = account ds (M .accepted) in
     let live : (key : ℕ) → Live t key → key < g .count = λ key l. rw (M .counted) l in
     let root : (key : ℕ) → Live t key → rootOf t key ≡ g .root key = λ key l. G .root key (live key l) in
-    let inside : (key : ℕ) → Live t key → Live t (rootOf t key) = λ key l. rw (root key l, ← M .counted) (H .whole .within key (live key l)) in
+    let inside : (key : ℕ) → Live t key → Live t (rootOf t key) =
+    λ key l. rw (root key l, ← M .counted) (H .whole .within key (live key l)) in
     let own : (r : ℕ) → Root t r → g .root r ≡ r = λ r l. sym (root r (l .0)) ∙ l .1 in
     let owns : (r : ℕ) → Root t r → (k : ℕ) → (rowAt (t .rows) r .owner ≡ Tenant k) ↔ (0 < inGroup t r (namings k ds)) = λ r l k.
-    rw (ap (λ (v : Value). v .owner) (G .value r (live r (l .0)) (own r l)), same-total G r (namings k ds) (A .below (λ v. namedBy k (v .owner))))
+    rw (
+      ap (λ (v : Value). v .owner) (G .value r (live r (l .0)) (own r l)),
+      same-total G r (namings k ds)
+          (A .below (λ v. namedBy k (v .owner))),
+    )
     (A .values r (live r (l .0)) (own r l) .owned k) in
     let walked : (a : ℕ) → Live t a → Holds (afterWalk t a .rows) g (S .room) = λ a l.
-    subst⁻¹ (λ (p : Path). Holds (walkedOn (t .rows) (endOf p) (passedBy p) .rows) g (S .room)) (walk-reaches t H (M .counted) a (live a l)) (walk-holds H a (live a l)) in
+    subst⁻¹ (λ (p : Path). Holds (walkedOn (t .rows) (endOf p) (passedBy p) .rows) g (S .room))
+    (walk-reaches t H (M .counted) a (live a l)) (walk-holds H a (live a l)) in
     record {
       ends = λ key l. (
         ends-there (walkOf t key) (g .root key) (reaches H key (live key l) .passed) (walk-reaches t H (M .counted) key (live key l)),
@@ -108,19 +118,22 @@ stands-demand t h S peace =
       owners = owns;
       unowned = λ r l f. unnamed (rowAt (t .rows) r .owner) (λ k e. let q = owns r l k .0 e in omega (arith, f k));
       short = λ key l. rw (same-size G (rootOf t key), root key l) (steps-bound t H (M .counted) key (live key l));
-      short-second = λ a b la lb. rw (same-size G (rootOf t b), root b lb) (steps-bound (afterWalk t a) (walked a la) (M .counted) b (live b lb));
+      short-second =
+          λ a b la lb. rw (same-size G (rootOf t b), root b lb) (steps-bound (afterWalk t a) (walked a la) (M .counted) b (live b lb));
       peace = peace;
       keys = A .keys ∙ ap downFrom (M .counted);
     }
 
 -- ---- any sequence of calls, on any table that stands for a history
 
-pub told-stands : (cs : List Call) (s : Story) → Stands (s .table) (s .past) → Peaceful (s .past) → Stands (tell s cs .table) (tell s cs .past) × Peaceful (tell s cs .past)
+pub told-stands : (cs : List Call) (s : Story) → Stands (s .table) (s .past) → Peaceful (s .past)
+    → Stands (tell s cs .table) (tell s cs .past) × Peaceful (tell s cs .past)
 unfolding tell
 told-stands [] s S p = (S, p)
 told-stands (c ∷ cs) s S p = let K = keeps S c in told-stands cs (turn s c) (K .stands) (K .peace, p)
 
-pub demand-from : (s : Story) → Stands (s .table) (s .past) → Peaceful (s .past) → (cs : List Call) → Demand (tell s cs .table) (tell s cs .past)
+pub demand-from : (s : Story) → Stands (s .table) (s .past) → Peaceful (s .past) → (cs : List Call)
+    → Demand (tell s cs .table) (tell s cs .past)
 demand-from s S p cs = let (S′, p′) = told-stands cs s S p in stands-demand (tell s cs .table) (tell s cs .past) S′ p′
 
 -- ---- the promise
