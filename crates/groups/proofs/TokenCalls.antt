@@ -50,14 +50,15 @@ module _ {t : Table} {h : History} (S : Stands t h) where
       subst (λ (k : ℕ). markAt (marked s) k ≡ new-mark) (S .opened)
       (getD-set-same (s .marks) (s .«open») new-mark (mark 0 0 0) (omega (arith, S .opened, S .marks-kept))) in
       let none : s .used - s .used ≡ 0 = omega arith in
-      rw (here, none) (
-        refl,
-        le-refl (s .used),
-        eq-eqb (s .count) (s .count) refl,
-        S .made,
-        back-marks (t .log) (markAt s) (markAt (marked s)) (s .used) (s .count) (t .rows) xs
-            (λ k q. getD-set-other (s .marks) (s .«open») k new-mark (mark 0 0 0) (λ z. omega (arith, S .opened))) (S .back),
-      )
+      rw (here, none) (record {
+        token = refl;
+        past = le-refl (s .used);
+        able = eq-eqb (s .count) (s .count) refl;
+        made = S .made;
+        outwards =
+            back-marks (t .log) (markAt s) (markAt (marked s)) (s .used) (s .count) (t .rows) xs
+            (λ k q. getD-set-other (s .marks) (s .«open») k new-mark (mark 0 0 0) (λ z. omega (arith, S .opened))) (S .back);
+      })
 
   pub keeps-snapshot : Keeps h Snapshot (resting t (snapshot (t .state)))
   unfolding track lastToken Orderly
@@ -145,12 +146,12 @@ module _ {t : Table} {h : History} (S : Stands t h) where
         }
 
     innermost-named : (token : ℕ) → inner .serial ≡ token → Innermost token (track h .saved)
-    innermost-named token q = rw e (sym (inner-back .0) ∙ q)
+    innermost-named token q = rw e (sym (inner-back .token) ∙ q)
 
     undone-stands : (token : ℕ) → inner .serial ≡ token
         → Stands (table (undo (t .rows) (since (t .log) (t .state) inner)) (t .log) (rolledBack (t .state) inner)) (event (Rollback token) (refusal DONE) ∷ h)
     undone-stands token q =
-        let (serial, len, able, made, rest) = inner-back in
+        let record { token = serial; past = len; able = able; made = made; outwards = rest } = inner-back in
         let es : List UndoLog = since (t .log) (t .state) inner in
         let n : noted (track h) (undoes token) ≡ record { now = x .deeds; saved = xs } =
         ap (λ (ys : List Saved). record { now = restored (track h .now) ys; saved = dropped ys }) e in
@@ -162,7 +163,7 @@ module _ {t : Table} {h : History} (S : Stands t h) where
     keeps-undone token =
         rw (inner-is, ne-eqb (t .state .«open») 0 busy)
         (cases (eqb (inner .serial) token)
-        (λ q. rw (q, inner-fits, inner-back .2)
+        (λ q. rw (q, inner-fits, inner-back .able)
         (record { stands = undone-stands token (eqb-true (inner .serial) token q); peace = calm 0 refl refl }))
         (λ q. rw q (keeps-refused S (Rollback token) 6 refl (calm 6 refl refl))))
 
@@ -190,7 +191,13 @@ module _ {t : Table} {h : History} (S : Stands t h) where
       let only : t .state .«open» ≡ 1 = some-open x [] e in
       rw (inner-is x [] e, ne-eqb (t .state .«open») 0 (busy x [] e))
       (cases (eqb (m .serial) token)
-      (λ q. rw (q, inner-fits x [] e, eq-eqb (t .state .«open») 1 only, le-ltb 0 (m .«log_len») (omega (arith, inner-back x [] e .4)))
+      (λ q. rw (
+        q,
+        inner-fits x [] e,
+        eq-eqb (t .state .«open») 1 only,
+        le-ltb 0 (m .«log_len»)
+            (omega (arith, inner-back x [] e .outwards)),
+      )
       (record { stands = closed-stands x [] e token (eqb-true (m .serial) token q) 0 zero-le refl; peace = calm 0 refl refl }))
       (λ q. rw q (keeps-refused S (Commit token) 6 refl (calm 6 refl refl))))
   keeps-commit token (x ∷ y ∷ zs) e =

@@ -105,7 +105,8 @@ undo-alike room keys count (NewElem key ∷ es) rs rs′ f w w′ p a =
 undo-alike room keys count (SetElem key old ∷ es) rs rs′ f w w′ p a =
     let (b, c) = and-eq-true-iff (ltb key count) (undoable keys count es) .0 p in
     let q : key < count = ltb-true key count b in
-    undo-alike room keys count es (putRow rs key old) (putRow rs′ key old) f (wide-put rs room key old w) (wide-put rs′ room key old w′) c
+    undo-alike room keys count es (putRow rs key old) (putRow rs′ key old) f (wide-put rs room key old w) (wide-put rs′ room key old w′)
+    c
     (alike-put count room rs rs′ key old w w′ (omega arith) a)
 undo-alike room keys count (Unknown ∷ es) rs rs′ f w w′ p a = absurd (true≢false (sym p))
 
@@ -148,16 +149,17 @@ pub back-log : (l l′ : Log) (marks : ℕ → Mark) (used count : ℕ) (rs : Ro
     → LeadsBack l marks used count rs xs → LeadsBack l′ marks used count rs xs
 back-log l l′ marks used count rs [] same b = b
 back-log l l′ marks used count rs (x ∷ xs) same b =
-    let (token, len, able, made, rest) = b in
+    let record { token = token; past = len; able = able; made = made; outwards = rest } = b in
     let m : Mark = marks (length xs) in
-    rw (newest-same l l′ (m .«log_len») (used - m .«log_len») used (omega arith) same) (
-      token,
-      len,
-      able,
-      made,
-      back-log l l′ marks (m .«log_len») (m .keys) (undo rs (newestFirst l (m .«log_len») (used - m .«log_len»)))
-          xs (λ j h. same j (omega arith)) rest,
-    )
+    rw (newest-same l l′ (m .«log_len») (used - m .«log_len») used (omega arith) same) (record {
+      token = token;
+      past = len;
+      able = able;
+      made = made;
+      outwards =
+          back-log l l′ marks (m .«log_len») (m .keys) (undo rs (newestFirst l (m .«log_len») (used - m .«log_len»))) xs
+          (λ j h. same j (omega arith)) rest;
+    })
 
 -- Under marks that are the same for the snapshots that are open.
 pub back-marks : (l : Log) (marks marks′ : ℕ → Mark) (used count : ℕ) (rs : Rows) (xs : List Saved)
@@ -165,16 +167,17 @@ pub back-marks : (l : Log) (marks marks′ : ℕ → Mark) (used count : ℕ) (r
     → LeadsBack l marks used count rs xs → LeadsBack l marks′ used count rs xs
 back-marks l marks marks′ used count rs [] same b = b
 back-marks l marks marks′ used count rs (x ∷ xs) same b =
-    let (token, len, able, made, rest) = b in
+    let record { token = token; past = len; able = able; made = made; outwards = rest } = b in
     let m : Mark = marks (length xs) in
-    rw (same (length xs) (le-refl (suc (length xs)))) (
-      token,
-      len,
-      able,
-      made,
-      back-marks l marks marks′ (m .«log_len») (m .keys)
-          (undo rs (newestFirst l (m .«log_len») (used - m .«log_len»))) xs (λ k h. same k (omega arith)) rest,
-    )
+    rw (same (length xs) (le-refl (suc (length xs)))) (record {
+      token = token;
+      past = len;
+      able = able;
+      made = made;
+      outwards =
+          back-marks l marks marks′ (m .«log_len») (m .keys) (undo rs (newestFirst l (m .«log_len») (used - m .«log_len»))) xs
+          (λ k h. same k (omega arith)) rest;
+    })
 
 -- From rows that are the same below the count.
 pub back-alike : (room : ℕ) (l : Log) (marks : ℕ → Mark) (used count : ℕ) (rs rs′ : Rows) (xs : List Saved) → count ≤ room
@@ -182,17 +185,18 @@ pub back-alike : (room : ℕ) (l : Log) (marks : ℕ → Mark) (used count : ℕ
     → LeadsBack l marks used count rs xs → LeadsBack l marks used count rs′ xs
 back-alike room l marks used count rs rs′ [] f w w′ a b = b
 back-alike room l marks used count rs rs′ (x ∷ xs) f w w′ a b =
-    let (token, len, able, made, rest) = b in
+    let record { token = token; past = len; able = able; made = made; outwards = rest } = b in
     let m : Mark = marks (length xs) in
     let es : List UndoLog = newestFirst l (m .«log_len») (used - m .«log_len») in
-    let a′ : Alike (m .keys) (undo rs es) (undo rs′ es) = undo-alike room (m .keys) count es rs rs′ f w w′ able a in (
-      token,
-      len,
-      able,
-      made-alike (undo rs′ es) a′ made,
-      back-alike room l marks (m .«log_len») (m .keys) (undo rs es) (undo rs′ es) xs
-          (omega (arith, undoable-le (m .keys) count es able)) (wide-undo rs room es w) (wide-undo rs′ room es w′) a′ rest,
-    )
+    let a′ : Alike (m .keys) (undo rs es) (undo rs′ es) = undo-alike room (m .keys) count es rs rs′ f w w′ able a in (record {
+      token = token;
+      past = len;
+      able = able;
+      made = made-alike (undo rs′ es) a′ made;
+      outwards =
+          back-alike room l marks (m .«log_len») (m .keys) (undo rs es) (undo rs′ es) xs
+          (omega (arith, undoable-le (m .keys) count es able)) (wide-undo rs room es w) (wide-undo rs′ room es w′) a′ rest;
+    })
 
 -- With one entry more, whose undoing gives back what it was before.
 pub back-entry : (l l′ : Log) (marks : ℕ → Mark) (used used′ count count′ : ℕ) (rs rs′ : Rows) (x : Saved) (xs : List Saved) (e : UndoLog)
@@ -202,27 +206,26 @@ pub back-entry : (l l′ : Log) (marks : ℕ → Mark) (used used′ count count
     → LeadsBack l marks used count rs (x ∷ xs) → LeadsBack l′ marks used′ count′ rs′ (x ∷ xs)
 unfolding undo
 back-entry l l′ marks used used′ count count′ rs rs′ x xs e u same hit un able′ b =
-    let (token, len, able, made, rest) = b in
+    let record { token = token; past = len; able = able; made = made; outwards = rest } = b in
     let m : Mark = marks (length xs) in
     let es : List UndoLog = newestFirst l (m .«log_len») (used - m .«log_len») in
     let q : newestFirst l′ (m .«log_len») (used′ - m .«log_len») ≡ e ∷ es =
     newest-more l l′ (m .«log_len») used used′ e u len same hit in
     let r : undo rs′ (e ∷ es) ≡ undo rs es = ap (λ (z : Rows). undo z es) un in
-    rw (q, r) (
-      token,
-      omega arith,
-      able′ (m .keys) es able,
-      made,
-      back-log l l′ marks (m .«log_len») (m .keys) (undo rs es) xs
-          (λ j h. same j (omega arith)) rest,
-    )
+    rw (q, r) (record {
+      token = token;
+      past = omega arith;
+      able = able′ (m .keys) es able;
+      made = made;
+      outwards = back-log l l′ marks (m .«log_len») (m .keys) (undo rs es) xs (λ j h. same j (omega arith)) rest;
+    })
 
 -- The innermost mark but one leads back over the entries of both.
 pub back-commit : (l : Log) (marks : ℕ → Mark) (used count : ℕ) (rs : Rows) (x y : Saved) (zs : List Saved)
     → LeadsBack l marks used count rs (x ∷ y ∷ zs) → LeadsBack l marks used count rs (y ∷ zs)
 back-commit l marks used count rs x y zs b =
-    let (token, len, able, made, rest) = b in
-    let (token′, len′, able′, made′, rest′) = rest in
+    let record { token = token; past = len; able = able; made = made; outwards = rest } = b in
+    let record { token = token′; past = len′; able = able′; made = made′; outwards = rest′ } = rest in
     let m : Mark = marks (length (y ∷ zs)) in
     let m′ : Mark = marks (length zs) in
     let young : List UndoLog = newestFirst l (m .«log_len») (used - m .«log_len») in
@@ -231,20 +234,20 @@ back-commit l marks used count rs x y zs b =
     let q : newestFirst l (m′ .«log_len») (used - m′ .«log_len») ≡ young ++ old =
     newest-split l (m′ .«log_len») (m .«log_len» - m′ .«log_len») (used - m .«log_len») (used - m′ .«log_len») (omega arith)
     ∙ ap (λ (n : ℕ). newestFirst l n (used - m .«log_len») ++ old) z in
-    rw (q, undo-append rs young old) (
-      token′,
-      omega arith,
-      undoable-append (m′ .keys) (m .keys) count young old able able′,
-      made′,
-      rest′,
-    )
+    rw (q, undo-append rs young old) (record {
+      token = token′;
+      past = omega arith;
+      able = undoable-append (m′ .keys) (m .keys) count young old able able′;
+      made = made′;
+      outwards = rest′;
+    })
 
 -- No open mark is past the used log or the count.
 pub back-fits : (l : Log) (marks : ℕ → Mark) (used count : ℕ) (rs : Rows) (xs : List Saved) → LeadsBack l marks used count rs xs
     → (k : ℕ) → k < length xs → (marks k .«log_len» ≤ used) × (marks k .keys ≤ count)
 back-fits l marks used count rs [] b k h = absurd (omega arith)
 back-fits l marks used count rs (x ∷ xs) b k h =
-    let (token, len, able, made, rest) = b in
+    let record { token = token; past = len; able = able; made = made; outwards = rest } = b in
     let m : Mark = marks (length xs) in
     let es : List UndoLog = newestFirst l (m .«log_len») (used - m .«log_len») in
     let below : m .keys ≤ count = undoable-le (m .keys) count es able in

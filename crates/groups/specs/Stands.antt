@@ -6,6 +6,7 @@ use mathlib.Core.Bool.{true}
 use mathlib.Core.List.{List, [], _∷_}
 use Prim.Native.Nat.{ℕ, _-_, _≤_, _<_}
 use lib.ListN.{length}
+use Rattle.rules.specs.declared.table.UndoLog.{UndoLog}
 use Rattle.rules.specs.declared.table.Mark.{Mark}
 use Rattle.rules.specs.Numbers.{MAX-ROWS, MAX-ENTRIES, MAX-OPEN}
 use Rattle.rules.specs.Lent.{Rows, Log, Table, valueOf, rowAt, markAt}
@@ -42,15 +43,26 @@ pub record Made (rs : Rows) (count : ℕ) (ds : List Deed) : Type 0 where
 
 -- ---- a log that leads back
 
--- Undoing the entries since the innermost mark gives rows that show what had survived as the snapshot was taken; and so on outwards.
--- With no snapshot open nothing is logged.
+-- Back to the mark m of a snapshot, by undoing the entries `es` logged since, which leaves the rows `rs`.
+pub record Returns (m : Mark) (x : Saved) (used count : ℕ) (es : List UndoLog) (rs : Rows) (Outwards : Type 0) : Type 0 where
+  -- the mark is the snapshot's
+  pub token : m .serial ≡ x .token
+  -- it was set before those entries
+  pub past : m .«log_len» ≤ used
+  -- they can be undone, from `count` keys down to the mark's
+  pub able : undoable (m .keys) count es ≡ true
+  -- the rows show what had survived as it was set
+  pub made : Made rs (m .keys) (x .deeds)
+  -- and so on to the marks before it
+  pub outwards : Outwards
+
+-- From the innermost mark outwards. With no snapshot open nothing is logged.
 abbrev pub LeadsBack : Log → (ℕ → Mark) → ℕ → ℕ → Rows → List Saved → Type 0
 LeadsBack l marks used count rs [] = used ≡ 0
 LeadsBack l marks used count rs (x ∷ xs) =
     let m = marks (length xs) in
     let es = newestFirst l (m .«log_len») (used - m .«log_len») in
-    (m .serial ≡ x .token) × (m .«log_len» ≤ used) × (undoable (m .keys) count es ≡ true)
-    × Made (undo rs es) (m .keys) (x .deeds) × LeadsBack l marks (m .«log_len») (m .keys) (undo rs es) xs
+    Returns m x used count es (undo rs es) (LeadsBack l marks (m .«log_len») (m .keys) (undo rs es) xs)
 
 -- ---- what is lent
 
@@ -70,15 +82,20 @@ pub record Lends (rs : Rows) (l : Log) (rows entries : ℕ) : Type 0 where
 -- ---- the two together
 
 pub record Stands (t : Table) (h : History) : Type 0 where
+  -- what is lent has room for so many rows and entries, and the state is within it
   pub room : ℕ
   pub log-room : ℕ
   pub lends : Lends (t .rows) (t .log) room log-room
   pub fits : t .state .count ≤ room
   pub log-fits : t .state .used ≤ log-room
   pub marks-kept : length (t .state .marks) ≡ MAX-OPEN
-  pub open-fits : length (track h .saved) ≤ MAX-OPEN
+  -- the snapshots open are those of the history
   pub opened : t .state .«open» ≡ length (track h .saved)
+  pub open-fits : length (track h .saved) ≤ MAX-OPEN
+  -- the rows show the groups of the deeds that survive
   pub made : Made (t .rows) (t .state .count) (track h .now)
+  -- and lead back to those of each open snapshot
   pub back : LeadsBack (t .log) (markAt (t .state)) (t .state .used) (t .state .count) (t .rows) (track h .saved)
+  -- the history follows the tokens' rules, and no token of it is above the last serial
   pub orderly : Orderly h
   pub serials : lastToken h ≤ t .state .last
