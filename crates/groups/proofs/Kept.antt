@@ -1,6 +1,6 @@
 -- What it is that a call keeps; and what every call does that moves nothing but rows and log.
 use mathlib.Core.Path.{_≡_, refl}
-use mathlib.Core.Bool.{Bool, true, false, cond}
+use mathlib.Core.Bool.{false}
 use mathlib.Core.List.{List, _∷_, _++_}
 use Prim.Native.Nat.{ℕ, _≤_}
 use lib.Dec.{eqb}
@@ -18,11 +18,6 @@ use Rattle.groups.proofs.Plans.{Quiet}
 pub record Keeps (h : History) (c : Call) (o : Outcome) : Type 0 where
   pub stands : Stands (o .table) (event c (o .answer) ∷ h)
   pub peace : Calm (o .answer .no)
-
-pub keeps-cond : {h : History} {c : Call} (b : Bool) {x y : Outcome} → (b ≡ true → Keeps h c x) → (b ≡ false → Keeps h c y)
-    → Keeps h c (cond b x y)
-keeps-cond true f g = f refl
-keeps-cond false f g = g refl
 
 -- ---- acts that take, undo and close nothing
 

@@ -1,7 +1,7 @@
 -- The plan of each call on rows: carried out, it moves the groups as the groups' own step says, and it is never BROKEN_TABLE.
 use mathlib.Core.Path.{_≡_, refl, sym, ap, ap₂, _∙_, subst, subst⁻¹}
 use mathlib.Core.Logic.{_≢_, inl, inr}
-use mathlib.Core.Bool.{Bool, true, false, cond}
+use mathlib.Core.Bool.{true, false, cond}
 use mathlib.Core.List.{List, [], _∷_, _++_}
 use Prim.Native.Nat.{ℕ, _+_, _≤_, _<_}
 use native.Mathlib.Omega.{arith}
@@ -25,7 +25,7 @@ use Rattle.rules.specs.Plan.{Plan, plan, Walked, walkedOn, goOn, walk, walkBoth
 use Rattle.groups.specs.Groups.{Groups, Deed, joined, posted, at, hung, raised, united, step, replay, Accepts, Accepted}
 use Rattle.groups.specs.Track.{Calm, event, Act, idle, moves, takes, undoes, closes, act, deedOf}
 use Rattle.groups.specs.Stands.{up, high, WideRows}
-use Rattle.groups.proofs.Tools.{cases, either}
+use Rattle.groups.proofs.Tools.{onCond, cases, either}
 use Rattle.groups.proofs.RowLaws.{Real, real-owner, row-hit, row-miss, wide-put}
 use Rattle.groups.proofs.MergeLaws.{merge-sum}
 use Rattle.groups.proofs.Whole.{Whole, by-rank, Hangs, hangs-a, hangs-b, hung-whole, step-whole, rank-low}
@@ -56,12 +56,6 @@ pub record Planned (rs : Rows) (room : ℕ) (now : List Deed) (c : Call) (p : Pl
   pub holds : Holds (writes rs (p .todo)) (replay (after c (p .answer) now)) room
   pub inside : Inside (replay now .count) (p .todo)
   pub peace : Calm (p .answer .no)
-
-module _ {rs : Rows} {room : ℕ} {now : List Deed} {c : Call} where
-  pub planned-cond : (b : Bool) {x y : Plan} → (b ≡ true → Planned rs room now c x) → (b ≡ false → Planned rs room now c y)
-      → Planned rs room now c (cond b x y)
-  planned-cond true f g = f refl
-  planned-cond false f g = g refl
 
 -- ---- a root gets another value, or is hung under another
 
@@ -352,7 +346,7 @@ module _ {rs : Rows} {room : ℕ} (now : List Deed) (A : Accepted now) (H : Hold
         let r : ℕ = replay now .root a in
         let s : ℕ = replay now .root b in
         rw (both-end joinOn)
-        (planned-cond (eqb r s)
+        (onCond (Planned rs room now (Join a b)) (eqb r s)
         (λ e. join-same (eqb-true r s e))
         (λ e. rw (not-high (eqb-false r s e))
         (join-settled (eqb-false r s e) (merge (valueOf (rowAt (second .rows) r)) (valueOf (rowAt (second .rows) s))) refl)))

@@ -22,7 +22,7 @@ use Rattle.rules.specs.Step.{new, live, one, two}
 use Rattle.groups.specs.Groups.{Groups, created, step as groupStep, replay}
 use Rattle.groups.specs.Track.{event, History, track}
 use Rattle.groups.specs.Stands.{WideRows, Made, Stands, Shows}
-use Rattle.groups.proofs.Tools.{cases}
+use Rattle.groups.proofs.Tools.{onCond, cases}
 use Rattle.groups.proofs.RowLaws.{Real, real-owner, wide-put, alike-past}
 use Rattle.groups.proofs.Whole.{whole}
 use Rattle.groups.proofs.Forest.{created-shows}
@@ -30,7 +30,7 @@ use Rattle.groups.proofs.Walks.{Holds, wrote}
 use Rattle.groups.proofs.Undoing.{back-alike}
 use Rattle.groups.proofs.Logging.{log-one, log-puts, puts-rows}
 use Rattle.groups.proofs.Plans.{calm, Planned}
-use Rattle.groups.proofs.Kept.{Keeps, keeps-cond, stands-on, as-logged, keeps-refused}
+use Rattle.groups.proofs.Kept.{Keeps, stands-on, as-logged, keeps-refused}
 
 module _ {t : Table} {h : History} (S : Stands t h) where
   -- ---- calls on rows
@@ -52,7 +52,7 @@ module _ {t : Table} {h : History} (S : Stands t h) where
 
   keeps-carry : (c : Call) (p : Plan) → Planned (t .rows) (S .room) (track h .now) c p → Keeps h c (carry t p)
   keeps-carry c p P =
-      keeps-cond (full (memoryOf t) (length (p .todo))) (λ _. keeps-refused S c 3 refl (calm 3 refl refl)) (λ e.
+      onCond (Keeps h c) (full (memoryOf t) (length (p .todo))) (λ _. keeps-refused S c 3 refl (calm 3 refl refl)) (λ e.
       let r : puts (memoryOf t) (p .todo) .rows ≡ writes (t .rows) (p .todo) = puts-rows (p .todo) (memoryOf t) in
       record {
         stands =
@@ -68,7 +68,7 @@ module _ {t : Table} {h : History} (S : Stands t h) where
   pub keeps-live : (c : Call) (key : ℕ) (p : Plan)
       → (key < replay (track h .now) .count → Planned (t .rows) (S .room) (track h .now) c p) → Keeps h c (live t key p)
   keeps-live c key p f =
-      keeps-cond (leb (t .state .count) key) (λ _. keeps-refused S c 1 refl (calm 1 refl refl))
+      onCond (Keeps h c) (leb (t .state .count) key) (λ _. keeps-refused S c 1 refl (calm 1 refl refl))
       (λ e. keeps-carry c p (f (omega (arith, leb-false (t .state .count) key e, S .made .counted))))
 
   pub keeps-one : (c : Call) (key : ℕ) (next : Walked → Plan)
@@ -112,9 +112,9 @@ module _ {t : Table} {h : History} (S : Stands t h) where
       let v : Value = value (ownerOf owner) amount in
       let rs : Rows = putRow (t .rows) n (row n 0 v) in
       let w : WideRows rs (S .room) = wide-put (t .rows) (S .room) n (row n 0 v) (S .lends .row-parts) in
-      keeps-cond (eqb n (length (t .rows .parents))) (λ _. keeps-refused S c 2 refl (calm 2 refl refl)) (λ e.
+      onCond (Keeps h c) (eqb n (length (t .rows .parents))) (λ _. keeps-refused S c 2 refl (calm 2 refl refl)) (λ e.
       let f : n < S .room = omega (arith, eqb-false n (length (t .rows .parents)) e, S .lends .row-parts .0, S .fits) in
-      keeps-cond (full (memoryOf t) 1) (λ _. keeps-refused S c 3 refl (calm 3 refl refl)) (λ e′.
+      onCond (Keeps h c) (full (memoryOf t) 1) (λ _. keeps-refused S c 3 refl (calm 3 refl refl)) (λ e′.
       record {
         stands =
             stands-on S (event c (found n 0)) rs (logged (NewElem n) (memoryOf t) .log) (n + 1) (logged (NewElem n) (memoryOf t) .used)

@@ -1,7 +1,7 @@
 -- Snapshots, rollbacks, commits and questions: a table that stands for a history stands for it with the call.
 use mathlib.Core.Path.{_≡_, refl, sym, ap, _∙_, subst}
 use mathlib.Core.Logic.{_≢_}
-use mathlib.Core.Bool.{Bool, true, false, cond}
+use mathlib.Core.Bool.{false}
 use mathlib.Core.List.{List, [], _∷_}
 use Prim.Native.Nat.{ℕ, zero, suc, _+_, _-_, _≤_, _<_, zero-le}
 use native.Mathlib.Nat.{le-refl}
@@ -13,7 +13,6 @@ use borrow.Author.Tests.{eqb-true, eqb-false, eq-eqb, ne-eqb, le-ltb}
 use Rattle.rules.specs.declared.call.Call.{Call}
 use Rattle.rules.specs.declared.call.Call.the-variants.{Snapshot, Rollback, Commit}
 use Rattle.rules.specs.declared.call.Answer.{Answer}
-use Rattle.rules.specs.declared.call.Answered.{Answered}
 use Rattle.rules.specs.declared.table.Mark.{Mark}
 use Rattle.rules.specs.declared.table.State.{State}
 use Rattle.rules.specs.declared.table.UndoLog.{UndoLog}
@@ -25,18 +24,13 @@ use Rattle.rules.specs.Step.{resting, rollback}
 use Rattle.groups.specs.Groups.{Deed}
 use Rattle.groups.specs.Track.{Calm, event, History, idle, act, Saved, restored, track, lastToken, Orderly, Event, dropped, noted, newer, Innermost, Follows, undoes}
 use Rattle.groups.specs.Stands.{Made, LeadsBack, Stands, WideRows}
-use Rattle.groups.proofs.Tools.{cases}
+use Rattle.groups.proofs.Tools.{onCond, cases}
 use Rattle.groups.proofs.Undoing.{undoable-le, wide-undo, back-marks, back-commit, back-fits}
 use Rattle.groups.proofs.Plans.{calm}
 use Rattle.groups.proofs.Kept.{Keeps, keeps-idle, keeps-refused}
 
 module _ {t : Table} {h : History} (S : Stands t h) where
   -- ---- calls that leave rows and log alone
-
-  resting-cond : {c : Call} (b : Bool) {x y : Answered} → (b ≡ true → Keeps h c (resting t x)) → (b ≡ false → Keeps h c (resting t y))
-      → Keeps h c (resting t (cond b x y))
-  resting-cond true f g = f refl
-  resting-cond false f g = g refl
 
   -- The mark that is set leads back to the rows as they are.
   back-marked : length (track h .saved) < MAX-OPEN
@@ -64,9 +58,9 @@ module _ {t : Table} {h : History} (S : Stands t h) where
   unfolding track lastToken Orderly
   keeps-snapshot =
       let s : State = t .state in
-      resting-cond (eqb (s .«open») MAX-OPEN) (λ _. keeps-refused S Snapshot 7 refl (calm 7 refl refl)) (λ e.
+      onCond (λ r. Keeps h Snapshot (resting t r)) (eqb (s .«open») MAX-OPEN) (λ _. keeps-refused S Snapshot 7 refl (calm 7 refl refl)) (λ e.
       let f : length (track h .saved) < MAX-OPEN = omega (arith, eqb-false (s .«open») MAX-OPEN e, S .opened, S .open-fits) in
-      resting-cond (eqb (s .last) MAX-U64) (λ _. keeps-refused S Snapshot 10 refl (calm 10 refl refl)) (λ _.
+      onCond (λ r. Keeps h Snapshot (resting t r)) (eqb (s .last) MAX-U64) (λ _. keeps-refused S Snapshot 10 refl (calm 10 refl refl)) (λ _.
       record {
         stands = record {
           room = S .room;

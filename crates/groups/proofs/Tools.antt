@@ -1,7 +1,7 @@
 -- Cases: on a test, on whether two numbers are the same.
 use mathlib.Core.Path.{_≡_, refl}
 use mathlib.Core.Logic.{_≢_, _⊎_, inl, inr}
-use mathlib.Core.Bool.{Bool, true, false}
+use mathlib.Core.Bool.{Bool, true, false, cond}
 use Prim.Native.Nat.{ℕ, suc, _<_}
 use native.Mathlib.Omega.{arith}
 use lib.Dec.{eqb}
@@ -10,6 +10,11 @@ use borrow.Author.Tests.{eqb-true, eqb-false}
 pub cases : {P : Type 0} (b : Bool) → (b ≡ true → P) → (b ≡ false → P) → P
 cases true f g = f refl
 cases false f g = g refl
+
+-- What holds of both is held by the one that a test picks.
+pub onCond : {A : Type 0} (P : A → Type 0) (b : Bool) {x y : A} → (b ≡ true → P x) → (b ≡ false → P y) → P (cond b x y)
+onCond P true f g = f refl
+onCond P false f g = g refl
 
 pub bySame : {P : Type 0} (a b : ℕ) → (a ≡ b → P) → (a ≢ b → P) → P
 bySame a b f g = cases (eqb a b) (λ e. f (eqb-true a b e)) (λ e. g (eqb-false a b e))

@@ -105,8 +105,8 @@ undo-alike room keys count (NewElem key ∷ es) rs rs′ f w w′ p a =
 undo-alike room keys count (SetElem key old ∷ es) rs rs′ f w w′ p a =
     let (b, c) = and-eq-true-iff (ltb key count) (undoable keys count es) .0 p in
     let q : key < count = ltb-true key count b in
-    undo-alike room keys count es (putRow rs key old) (putRow rs′ key old) f (wide-put rs room key old w) (wide-put rs′ room key old w′)
-    c
+    undo-alike room keys count es (putRow rs key old) (putRow rs′ key old) f
+    (wide-put rs room key old w) (wide-put rs′ room key old w′) c
     (alike-put count room rs rs′ key old w w′ (omega arith) a)
 undo-alike room keys count (Unknown ∷ es) rs rs′ f w w′ p a = absurd (true≢false (sym p))
 
