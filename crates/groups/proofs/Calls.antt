@@ -15,17 +15,17 @@ use Rattle.rules.proofs.StateLaws.{good-bad}
 use Rattle.rules.specs.Step.{call, step}
 use Rattle.groups.specs.Groups.{replay}
 use Rattle.groups.specs.Track.{History, Saved, track, lastToken, Orderly}
-use Rattle.groups.specs.Stands.{Lends, Stands}
+use Rattle.groups.specs.Stands.{Lends, StandsOver}
 use Rattle.groups.proofs.Forest.{shows-none}
 use Rattle.groups.proofs.Plans.{calm, find-planned, probe-planned, probe-key-planned, try-planned, post-planned, unioned-planned, join-planned}
 use Rattle.groups.proofs.Kept.{Keeps, keeps-idle}
 use Rattle.groups.proofs.RowCalls.{holds, keeps-live, keeps-one, keeps-two, keeps-new}
-use Rattle.groups.proofs.TokenCalls.{busy, keeps-snapshot, keeps-rollback, keeps-commit, keeps-ask}
+use Rattle.groups.proofs.TokenCalls.{Restores, busy, keeps-snapshot, keeps-rollback, rollback-restores, keeps-commit, keeps-ask}
 
-module _ {t : Table} {h : History} (S : Stands t h) where
+module _ {over : ℕ → Rows} {t : Table} {h : History} (S : StandsOver over t h) where
   -- ---- any call
 
-  keeps-call : (c : Call) → Keeps h c (call t c)
+  keeps-call : (c : Call) → Keeps over t h c (call t c)
   unfolding call
   keeps-call (New owner amount) = keeps-new S owner amount
   keeps-call Len = keeps-idle S Len (range 0 (t .state .count)) refl (calm 0 refl refl)
@@ -78,13 +78,17 @@ module _ {t : Table} {h : History} (S : Stands t h) where
         shut = nothing-used (track h .saved) refl;
       })
 
-  pub keeps : (c : Call) → Keeps h c (step t c)
+  pub keeps : (c : Call) → Keeps over t h c (step t c)
   unfolding step
   keeps c = rw not-bad (keeps-call c)
 
+  pub restores : (token : ℕ) → Restores over t (step t (Rollback token))
+  unfolding step call
+  restores token = rw not-bad (rollback-restores S token (track h .saved) refl)
+
 -- ---- the first case: a fresh table, whatever its lent rows and entries hold, and the empty history
 
-pub fresh-stands : (rs : Rows) (l : Log) (rows entries : ℕ) → Lends rs l rows entries → Stands (table rs l fresh) []
+pub fresh-stands : (rs : Rows) (l : Log) (rows entries : ℕ) → Lends rs l rows entries → StandsOver (λ _. rs) (table rs l fresh) []
 unfolding track lastToken Orderly replay
 fresh-stands rs l rows entries L = record {
   room = rows;

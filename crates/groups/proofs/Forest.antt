@@ -8,10 +8,9 @@ use Rattle.rules.specs.declared.table.Value.{Value}
 use Rattle.rules.specs.declared.table.Row.{Row}
 use Rattle.rules.specs.Lent.{Rows, row, valueOf, rowAt}
 use Rattle.groups.specs.Groups.{Groups, noGroups, created, at, shift, hung, step}
-use Rattle.groups.specs.Stands.{up, high, Leads, here, along, Shows}
+use Rattle.groups.specs.Stands.{up, high, Leads, here, along, Shows, Alike}
 use Rattle.groups.proofs.Tools.{bySame, upTo}
 use Rattle.groups.proofs.SumLaws.{at-hit, at-miss, shift-hit, shift-miss}
-use Rattle.groups.proofs.RowLaws.{Alike}
 use Rattle.groups.proofs.Whole.{Whole, Hangs}
 
 -- ---- where a key leads

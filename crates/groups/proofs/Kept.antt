@@ -11,12 +11,12 @@ use Rattle.rules.specs.Lent.{Rows, Log, Table, table, markAt, counting}
 use Rattle.rules.specs.Answer.{answer, refusal, opened}
 use Rattle.rules.specs.Refusal.{Outcome, outcome, refused}
 use Rattle.groups.specs.Track.{Calm, Event, event, History, Act, idle, moves, takes, undoes, closes, act, deedOf, Saved, Track, noted, track, newer, lastToken, Follows, Orderly}
-use Rattle.groups.specs.Stands.{WideRows, Made, Stands}
+use Rattle.groups.specs.Stands.{WideRows, Made, overAfter, StandsOver}
 use Rattle.groups.proofs.Logging.{Logged}
 use Rattle.groups.proofs.Plans.{Quiet}
 
-pub record Keeps (h : History) (c : Call) (o : Outcome) : Type 0 where
-  pub stands : Stands (o .table) (event c (o .answer) ∷ h)
+pub record Keeps (over : ℕ → Rows) (t : Table) (h : History) (c : Call) (o : Outcome) : Type 0 where
+  pub stands : StandsOver (overAfter over t (act (event c (o .answer)))) (o .table) (event c (o .answer) ∷ h)
   pub peace : Calm (o .answer .no)
 
 -- ---- acts that take, undo and close nothing
@@ -42,11 +42,19 @@ quiet-follows (takes token) t xs q = absurd q
 quiet-follows (undoes token) t xs q = absurd q
 quiet-follows (closes token) t xs q = absurd q
 
-module _ {t : Table} {h : History} (S : Stands t h) where
+quiet-over : (a : Act) (over : ℕ → Rows) (t : Table) → Quiet a → overAfter over t a ≡ over
+quiet-over idle over t q = refl
+quiet-over (moves d) over t q = refl
+quiet-over (takes token) over t q = absurd q
+quiet-over (undoes token) over t q = absurd q
+quiet-over (closes token) over t q = absurd q
+
+module _ {over : ℕ → Rows} {t : Table} {h : History} (S : StandsOver over t h) where
   -- The table with other rows, log, count and used log, and the same snapshots.
   pub stands-on : (e : Event) (rs : Rows) (l : Log) (count used : ℕ) → Quiet (act e) → WideRows rs (S .room) → count ≤ S .room
-      → Logged (markAt (t .state)) (S .log-room) l used count rs (track h .saved) → Made rs count (deedOf (act e) ++ track h .now)
-      → Stands (table rs l (counting (t .state) count used (t .state .«open»))) (e ∷ h)
+      → Logged (S .room) (markAt (t .state)) over (S .log-room) l used count rs (track h .saved)
+      → Made rs count (deedOf (act e) ++ track h .now)
+      → StandsOver (overAfter over t (act e)) (table rs l (counting (t .state) count used (t .state .«open»))) (e ∷ h)
   unfolding track lastToken Orderly
   stands-on e rs l count used q w f L M =
       let n : noted (track h) (act e) ≡ record { now = deedOf (act e) ++ track h .now; saved = track h .saved } =
@@ -61,16 +69,16 @@ module _ {t : Table} {h : History} (S : Stands t h) where
         open-fits = rw n (S .open-fits);
         opened = rw n (S .opened);
         made = rw n M;
-        back = rw n (L .back);
+        back = rw (n, quiet-over (act e) over t q) (L .back);
         orderly = (quiet-follows (act e) (lastToken h) (track h .saved) q, S .orderly);
         serials = rw (quiet-newer (act e) (lastToken h) q) (S .serials);
       }
 
-  pub as-logged : Logged (markAt (t .state)) (S .log-room) (t .log) (t .state .used) (t .state .count) (t .rows) (track h .saved)
+  pub as-logged : Logged (S .room) (markAt (t .state)) over (S .log-room) (t .log) (t .state .used) (t .state .count) (t .rows) (track h .saved)
   as-logged = record { wide = S .lends .log-parts; fits = S .log-fits; back = S .back }
 
   -- An answer that moves nothing.
-  pub keeps-idle : (c : Call) (a : Answer) → act (event c a) ≡ idle → Calm (a .no) → Keeps h c (outcome a t)
+  pub keeps-idle : (c : Call) (a : Answer) → act (event c a) ≡ idle → Calm (a .no) → Keeps over t h c (outcome a t)
   keeps-idle c a e z = record {
     stands =
         stands-on (event c a) (t .rows) (t .log) (t .state .count) (t .state .used) (rw e tt) (S .lends .row-parts) (S .fits) as-logged
@@ -78,5 +86,5 @@ module _ {t : Table} {h : History} (S : Stands t h) where
     peace = z;
   }
 
-  pub keeps-refused : (c : Call) (n : ℕ) → eqb n DONE ≡ false → Calm n → Keeps h c (refused n t)
+  pub keeps-refused : (c : Call) (n : ℕ) → eqb n DONE ≡ false → Calm n → Keeps over t h c (refused n t)
   keeps-refused c n e z = keeps-idle c (refusal n) (rw e) z

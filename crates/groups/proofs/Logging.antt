@@ -20,26 +20,29 @@ use Rattle.groups.proofs.Walks.{Inside}
 use Rattle.groups.proofs.Undoing.{Known, entry-hit, entry-miss, wide-entry, back-entry}
 
 -- A log of `entries` that leads back from these rows.
-pub record Logged (marks : ℕ → Mark) (entries : ℕ) (l : Log) (used count : ℕ) (rs : Rows) (xs : List Saved) : Type 0 where
+pub record Logged (room : ℕ) (marks : ℕ → Mark) (over : ℕ → Rows) (entries : ℕ) (l : Log) (used count : ℕ) (rs : Rows)
+    (xs : List Saved) : Type 0 where
   pub wide : WideLog l entries
   pub fits : used ≤ entries
-  pub back : LeadsBack l marks used count rs xs
+  pub back : LeadsBack room l marks over used count rs xs
 
-module _ (marks : ℕ → Mark) (entries : ℕ) where
+module _ (room : ℕ) (marks : ℕ → Mark) (over : ℕ → Rows) (entries : ℕ) where
   -- One entry is logged, if a snapshot is open.
   pub log-one : (m : Memory) (count count′ : ℕ) (rs rs′ : Rows) (xs : List Saved) (e : UndoLog) → m .opened ≡ length xs
       → (m .opened ≢ 0 → m .used + 1 ≤ entries) → Known e
       → reversed rs′ e ≡ rs → ((keys : ℕ) (es : List UndoLog) → undoable keys count es ≡ true → undoable keys count′ (e ∷ es) ≡ true)
-      → Logged marks entries (m .log) (m .used) count rs xs → Logged marks entries (logged e m .log) (logged e m .used) count′ rs′ xs
+      → Logged room marks over entries (m .log) (m .used) count rs xs
+      → Logged room marks over entries (logged e m .log) (logged e m .used) count′ rs′ xs
   log-one m count count′ rs rs′ [] e o free k un able L =
       rw (eq-eqb (m .opened) 0 o) (record { wide = L .wide; fits = L .fits; back = L .back })
   log-one m count count′ rs rs′ (x ∷ xs) e o free k un able L =
       let busy : m .opened ≢ 0 = λ z. omega arith in
-      let room : m .used + 1 ≤ entries = free busy in
+      let left : m .used + 1 ≤ entries = free busy in
       rw (ne-eqb (m .opened) 0 busy) (record {
         wide = wide-entry (m .log) entries (m .used) e (L .wide);
-        fits = room;
-        back = back-entry (m .log) (putEntry (m .log) (m .used) e) marks (m .used) (m .used + 1) count count′ rs rs′ x xs e refl
+        fits = left;
+        back =
+            back-entry room (m .log) (putEntry (m .log) (m .used) e) marks over (m .used) (m .used + 1) count count′ rs rs′ x xs e refl
             (λ j h. entry-miss (m .log) (m .used) j e (λ z. omega arith))
             (entry-hit (m .log) entries (m .used) (L .wide) (omega arith) e k) un able (L .back);
       })
@@ -47,8 +50,8 @@ module _ (marks : ℕ → Mark) (entries : ℕ) where
   -- A row is written, its old row logged.
   log-put : (m : Memory) (count : ℕ) (xs : List Saved) (w : Write) → m .opened ≡ length xs → (m .opened ≢ 0 → m .used + 1 ≤ entries)
       → place w < count
-      → Logged marks entries (m .log) (m .used) count (m .rows) xs
-      → Logged marks entries (put m w .log) (put m w .used) count (put m w .rows) xs
+      → Logged room marks over entries (m .log) (m .used) count (m .rows) xs
+      → Logged room marks over entries (put m w .log) (put m w .used) count (put m w .rows) xs
   unfolding undoable
   log-put m count xs w o free h L =
       let rs : Rows = m .rows in
@@ -59,8 +62,8 @@ module _ (marks : ℕ → Mark) (entries : ℕ) where
 
   pub log-puts : (ws : List Write) (m : Memory) (count : ℕ) (xs : List Saved) → m .opened ≡ length xs
       → (m .opened ≢ 0 → m .used + length ws ≤ entries) → Inside count ws
-      → Logged marks entries (m .log) (m .used) count (m .rows) xs
-      → Logged marks entries (puts m ws .log) (puts m ws .used) count (puts m ws .rows) xs
+      → Logged room marks over entries (m .log) (m .used) count (m .rows) xs
+      → Logged room marks over entries (puts m ws .log) (puts m ws .used) count (puts m ws .rows) xs
   unfolding puts
   log-puts [] m count xs o free i L = L
   log-puts (w ∷ ws) m count xs o free i L =

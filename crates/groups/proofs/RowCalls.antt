@@ -21,7 +21,7 @@ use Rattle.rules.specs.Refusal.{refused, carry}
 use Rattle.rules.specs.Step.{new, live, one, two}
 use Rattle.groups.specs.Groups.{Groups, created, step as groupStep, replay}
 use Rattle.groups.specs.Track.{event, History, track}
-use Rattle.groups.specs.Stands.{WideRows, Made, Stands, Shows}
+use Rattle.groups.specs.Stands.{WideRows, Made, StandsOver, Shows}
 use Rattle.groups.proofs.Tools.{onCond, cases}
 use Rattle.groups.proofs.RowLaws.{Real, real-owner, wide-put, alike-past}
 use Rattle.groups.proofs.Whole.{whole}
@@ -32,7 +32,7 @@ use Rattle.groups.proofs.Logging.{log-one, log-puts, puts-rows}
 use Rattle.groups.proofs.Plans.{calm, Planned}
 use Rattle.groups.proofs.Kept.{Keeps, stands-on, as-logged, keeps-refused}
 
-module _ {t : Table} {h : History} (S : Stands t h) where
+module _ {over : ℕ → Rows} {t : Table} {h : History} (S : StandsOver over t h) where
   -- ---- calls on rows
 
   pub holds : Holds (t .rows) (replay (track h .now)) (S .room)
@@ -50,40 +50,41 @@ module _ {t : Table} {h : History} (S : Stands t h) where
       let q : ltb (length (t .log .kinds) - t .state .used) n ≡ false = rw (ne-eqb (t .state .«open») 0 b) at e in
       omega (arith, ltb-false (length (t .log .kinds) - t .state .used) n q, S .lends .log-parts .0, S .log-fits)
 
-  keeps-carry : (c : Call) (p : Plan) → Planned (t .rows) (S .room) (track h .now) c p → Keeps h c (carry t p)
+  keeps-carry : (c : Call) (p : Plan) → Planned (t .rows) (S .room) (track h .now) c p → Keeps over t h c (carry t p)
   keeps-carry c p P =
-      onCond (Keeps h c) (full (memoryOf t) (length (p .todo))) (λ _. keeps-refused S c 3 refl (calm 3 refl refl)) (λ e.
+      onCond (Keeps over t h c) (full (memoryOf t) (length (p .todo))) (λ _. keeps-refused S c 3 refl (calm 3 refl refl)) (λ e.
       let r : puts (memoryOf t) (p .todo) .rows ≡ writes (t .rows) (p .todo) = puts-rows (p .todo) (memoryOf t) in
       record {
         stands =
             stands-on S (event c (p .answer)) (puts (memoryOf t) (p .todo) .rows) (puts (memoryOf t) (p .todo) .log) (t .state .count)
             (puts (memoryOf t) (p .todo) .used) (P .quiet)
             (rw r (P .holds .wide)) (S .fits)
-            (log-puts (markAt (t .state)) (S .log-room) (p .todo) (memoryOf t) (t .state .count) (track h .saved) (S .opened)
+            (log-puts (S .room) (markAt (t .state)) over (S .log-room) (p .todo) (memoryOf t) (t .state .count) (track h .saved)
+            (S .opened)
             (free (length (p .todo)) e) (rw (S .made .counted) at (P .inside)) (as-logged S))
             (rw r (record { accepted = P .accepted; counted = P .counted ∙ S .made .counted; shows = P .holds .shows }));
         peace = P .peace;
       })
 
   pub keeps-live : (c : Call) (key : ℕ) (p : Plan)
-      → (key < replay (track h .now) .count → Planned (t .rows) (S .room) (track h .now) c p) → Keeps h c (live t key p)
+      → (key < replay (track h .now) .count → Planned (t .rows) (S .room) (track h .now) c p) → Keeps over t h c (live t key p)
   keeps-live c key p f =
-      onCond (Keeps h c) (leb (t .state .count) key) (λ _. keeps-refused S c 1 refl (calm 1 refl refl))
+      onCond (Keeps over t h c) (leb (t .state .count) key) (λ _. keeps-refused S c 1 refl (calm 1 refl refl))
       (λ e. keeps-carry c p (f (omega (arith, leb-false (t .state .count) key e, S .made .counted))))
 
   pub keeps-one : (c : Call) (key : ℕ) (next : Walked → Plan)
       → (key < replay (track h .now) .count → Planned (t .rows) (S .room) (track h .now) c (walk (t .rows) (replay (track h .now) .count) key next))
-      → Keeps h c (one t key next)
+      → Keeps over t h c (one t key next)
   keeps-one c key next f =
       keeps-live c key (walk (t .rows) (t .state .count) key next)
       (λ q. subst (λ (n : ℕ). Planned (t .rows) (S .room) (track h .now) c (walk (t .rows) n key next)) (S .made .counted) (f q))
 
   pub keeps-two : (c : Call) (a b : ℕ) (next : Walked → Walked → Plan)
       → (a < replay (track h .now) .count → b < replay (track h .now) .count → Planned (t .rows) (S .room) (track h .now) c (walkBoth (t .rows) (replay (track h .now) .count) a b next))
-      → Keeps h c (two t a b next)
+      → Keeps over t h c (two t a b next)
   keeps-two c a b next f =
       let n : ℕ = t .state .count in
-      let no : Keeps h c (refused 1 t) = keeps-refused S c 1 refl (calm 1 refl refl) in
+      let no : Keeps over t h c (refused 1 t) = keeps-refused S c 1 refl (calm 1 refl refl) in
       cases (leb n a) (λ e. rw e no) (λ e. cases (leb n b) (λ e′. rw (e, e′) no) (λ e′. rw (e, e′)
       (keeps-carry c (walkBoth (t .rows) n a b next)
       (subst (λ (m : ℕ). Planned (t .rows) (S .room) (track h .now) c (walkBoth (t .rows) m a b next)) (S .made .counted)
@@ -104,7 +105,7 @@ module _ {t : Table} {h : History} (S : Stands t h) where
             (wrote (t .rows) (S .room) (g .count) (row (g .count) 0 v) (S .lends .row-parts) (omega arith) real));
       }
 
-  pub keeps-new : (owner amount : ℕ) → Keeps h (New owner amount) (new t (value (ownerOf owner) amount))
+  pub keeps-new : (owner amount : ℕ) → Keeps over t h (New owner amount) (new t (value (ownerOf owner) amount))
   unfolding undoable
   keeps-new owner amount =
       let c : Call = New owner amount in
@@ -112,21 +113,22 @@ module _ {t : Table} {h : History} (S : Stands t h) where
       let v : Value = value (ownerOf owner) amount in
       let rs : Rows = putRow (t .rows) n (row n 0 v) in
       let w : WideRows rs (S .room) = wide-put (t .rows) (S .room) n (row n 0 v) (S .lends .row-parts) in
-      onCond (Keeps h c) (eqb n (length (t .rows .parents))) (λ _. keeps-refused S c 2 refl (calm 2 refl refl)) (λ e.
+      onCond (Keeps over t h c) (eqb n (length (t .rows .parents))) (λ _. keeps-refused S c 2 refl (calm 2 refl refl)) (λ e.
       let f : n < S .room = omega (arith, eqb-false n (length (t .rows .parents)) e, S .lends .row-parts .0, S .fits) in
-      onCond (Keeps h c) (full (memoryOf t) 1) (λ _. keeps-refused S c 3 refl (calm 3 refl refl)) (λ e′.
+      onCond (Keeps over t h c) (full (memoryOf t) 1) (λ _. keeps-refused S c 3 refl (calm 3 refl refl)) (λ e′.
       record {
         stands =
             stands-on S (event c (found n 0)) rs (logged (NewElem n) (memoryOf t) .log) (n + 1) (logged (NewElem n) (memoryOf t) .used)
             tt w (omega arith)
-            (log-one (markAt (t .state)) (S .log-room) (memoryOf t) n (n + 1) rs rs (track h .saved) (NewElem n) (S .opened) (free 1 e′)
+            (log-one (S .room) (markAt (t .state)) over (S .log-room) (memoryOf t) n (n + 1) rs rs (track h .saved) (NewElem n)
+            (S .opened) (free 1 e′)
             tt refl
             (λ keys es p. rw (eq-eqb (n + 1) (n + 1) refl) p)
             (record {
               wide = S .lends .log-parts;
               fits = S .log-fits;
               back =
-                  back-alike (S .room) (t .log) (markAt (t .state)) (t .state .used) n (t .rows) rs (track h .saved) (S .fits)
+                  back-alike (S .room) (t .log) (markAt (t .state)) over (t .state .used) n (t .rows) rs (track h .saved) (S .fits)
                   (S .lends .row-parts) w
                   (alike-past n (t .rows) n (row n 0 v) (λ j q z. omega arith)) (S .back);
             }))

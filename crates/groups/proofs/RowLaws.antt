@@ -12,7 +12,7 @@ use Rattle.rules.specs.declared.table.Owner.the-variants.{Nobody, Tenant}
 use Rattle.rules.specs.declared.table.Row.{Row}
 use Rattle.rules.specs.Lent.{Rows, ownerOf, numberOf, value, row, rowAt, putRow}
 use Rattle.rules.proofs.RowLaws.{number-owner}
-use Rattle.groups.specs.Stands.{WideRows}
+use Rattle.groups.specs.Stands.{WideRows, Alike}
 use Rattle.groups.proofs.Tools.{bySame}
 
 -- ---- "Owner 0, in lent numbers or in a call, means none": no owner that is read has the number 0
@@ -79,9 +79,6 @@ put-back rs i r =
     )
 
 -- ---- rows that are the same below a count
-
-abbrev pub Alike : ℕ → Rows → Rows → Type 0
-Alike n rs rs′ = (i : ℕ) → i < n → rowAt rs i ≡ rowAt rs′ i
 
 pub alike-put : (n room : ℕ) (rs rs′ : Rows) (i : ℕ) (r : Row) → WideRows rs room → WideRows rs′ room → i < room → Alike n rs rs′
     → Alike n (putRow rs i r) (putRow rs′ i r)

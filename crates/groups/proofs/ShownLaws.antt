@@ -11,7 +11,7 @@ use Rattle.groups.specs.Sums.{Credits, total, ones, size}
 use Rattle.groups.specs.Groups.{Groups, replay}
 use Rattle.groups.specs.Shown.{walkOf, endOf, stepsOf, groupsOf, Same}
 use Rattle.groups.specs.Track.{History, event, act, deedOf, Track, track}
-use Rattle.groups.specs.Stands.{Stands}
+use Rattle.groups.specs.Stands.{overAfter, Stands}
 use Rattle.groups.proofs.SumLaws.{Below, below-ones, total-agree}
 use Rattle.groups.proofs.Forest.{is-root}
 use Rattle.groups.proofs.Walks.{Holds, reaches, log2-bound}
@@ -47,7 +47,7 @@ module _ {g g′ : Groups} (S : Same g g′) where
   same-size r = ap (λ (n : ℕ). size (g .root) n r) (S .count) ∙ same-total r (ones (g′ .count)) (below-ones (g′ .count))
 
 pub shown : (t : Table) (h : History) → Stands t h → Same (groupsOf t) (replay (track h .now))
-shown t h S = same-groups t (holds S) (S .made .counted)
+shown t h S = same-groups t (holds (S .1)) (S .1 .made .counted)
 
 -- A call that is answered DONE and creates, joins or posts moves the groups by that deed's own step. One that is refused, or only
 -- looks, has no deed and leaves them.
@@ -56,4 +56,5 @@ pub moved : (t : Table) (h : History) → Stands t h → (c : Call) → Quiet (a
 unfolding track
 moved t h S c q =
     rw (← ap (λ (g : Track). g .now) (quiet-noted (act (event c (step t c .answer))) (track h) q))
-    (shown (step t c .table) (event c (step t c .answer) ∷ h) (keeps S c .stands))
+    (shown (step t c .table) (event c (step t c .answer) ∷ h)
+    (overAfter (S .0) t (act (event c (step t c .answer))), keeps (S .1) c .stands))

@@ -18,9 +18,9 @@ use Rattle.rules.specs.Lent.{Rows, Log, kindOf, keyOf, oldOf, putRow, entryAt, 
 use Rattle.rules.specs.Tokens.{newestFirst, undoable, reversed, undo}
 use Rattle.groups.specs.Groups.{Deed}
 use Rattle.groups.specs.Track.{Saved}
-use Rattle.groups.specs.Stands.{Made, LeadsBack, WideRows, WideLog}
+use Rattle.groups.specs.Stands.{Made, WideRows, WideLog, Alike, LeadsBack}
 use Rattle.groups.proofs.Tools.{bySame}
-use Rattle.groups.proofs.RowLaws.{Real, row-hit, row-miss, wide-put, Alike, alike-put}
+use Rattle.groups.proofs.RowLaws.{Real, row-hit, row-miss, wide-put, alike-put}
 use Rattle.groups.proofs.Forest.{shows-alike}
 
 -- ---- an entry written, and the entries read afterwards
@@ -139,118 +139,129 @@ newest-split l base m (suc n) (suc k) e =
 
 -- ---- the log leads back still
 
-made-alike : {rs : Rows} (rs′ : Rows) {count : ℕ} {ds : List Deed} → Alike count rs rs′ → Made rs count ds → Made rs′ count ds
+pub made-alike : {rs : Rows} (rs′ : Rows) {count : ℕ} {ds : List Deed} → Alike count rs rs′ → Made rs count ds → Made rs′ count ds
 made-alike {rs} rs′ {count} {ds} a M =
     record { accepted = M .accepted; counted = M .counted; shows = shows-alike (M .shows) rs′ (λ i h. a i (rw (M .counted) at h)) }
 
--- In a log that is the same up to its used length.
-pub back-log : (l l′ : Log) (marks : ℕ → Mark) (used count : ℕ) (rs : Rows) (xs : List Saved)
-    → ((j : ℕ) → j < used → entryAt l′ j ≡ entryAt l j)
-    → LeadsBack l marks used count rs xs → LeadsBack l′ marks used count rs xs
-back-log l l′ marks used count rs [] same b = b
-back-log l l′ marks used count rs (x ∷ xs) same b =
-    let record { token = token; past = len; able = able; made = made; outwards = rest } = b in
-    let m : Mark = marks (length xs) in
-    rw (newest-same l l′ (m .«log_len») (used - m .«log_len») used (omega arith) same) (record {
-      token = token;
-      past = len;
-      able = able;
-      made = made;
-      outwards =
-          back-log l l′ marks (m .«log_len») (m .keys) (undo rs (newestFirst l (m .«log_len») (used - m .«log_len»))) xs
-          (λ j h. same j (omega arith)) rest;
-    })
+module _ (room : ℕ) where
+  -- In a log that is the same up to its used length.
+  pub back-log : (l l′ : Log) (marks : ℕ → Mark) (over : ℕ → Rows) (used count : ℕ) (rs : Rows) (xs : List Saved)
+      → ((j : ℕ) → j < used → entryAt l′ j ≡ entryAt l j) → LeadsBack room l marks over used count rs xs
+      → LeadsBack room l′ marks over used count rs xs
+  back-log l l′ marks over used count rs [] same b = b
+  back-log l l′ marks over used count rs (x ∷ xs) same b =
+      let m : Mark = marks (length xs) in
+      let p : m .«log_len» ≤ used = b .past in
+      rw (newest-same l l′ (m .«log_len») (used - m .«log_len») used (omega arith) same) (record {
+        token = b .token;
+        past = p;
+        able = b .able;
+        very = b .very;
+        wide = b .wide;
+        made = b .made;
+        outwards = back-log l l′ marks over (m .«log_len») (m .keys) (over (length xs)) xs (λ j h. same j (omega arith)) (b .outwards);
+      })
 
--- Under marks that are the same for the snapshots that are open.
-pub back-marks : (l : Log) (marks marks′ : ℕ → Mark) (used count : ℕ) (rs : Rows) (xs : List Saved)
-    → ((k : ℕ) → k < length xs → marks′ k ≡ marks k)
-    → LeadsBack l marks used count rs xs → LeadsBack l marks′ used count rs xs
-back-marks l marks marks′ used count rs [] same b = b
-back-marks l marks marks′ used count rs (x ∷ xs) same b =
-    let record { token = token; past = len; able = able; made = made; outwards = rest } = b in
-    let m : Mark = marks (length xs) in
-    rw (same (length xs) (le-refl (suc (length xs)))) (record {
-      token = token;
-      past = len;
-      able = able;
-      made = made;
-      outwards =
-          back-marks l marks marks′ (m .«log_len») (m .keys) (undo rs (newestFirst l (m .«log_len») (used - m .«log_len»))) xs
-          (λ k h. same k (omega arith)) rest;
-    })
+  -- Under marks, and over rows, that are the same for the snapshots that are open.
+  pub back-marks : (l : Log) (marks marks′ : ℕ → Mark) (over over′ : ℕ → Rows) (used count : ℕ) (rs : Rows) (xs : List Saved)
+      → ((k : ℕ) → k < length xs → (marks′ k ≡ marks k) × (over′ k ≡ over k))
+      → LeadsBack room l marks over used count rs xs → LeadsBack room l marks′ over′ used count rs xs
+  back-marks l marks marks′ over over′ used count rs [] same b = b
+  back-marks l marks marks′ over over′ used count rs (x ∷ xs) same b =
+      let m : Mark = marks (length xs) in
+      let (s, s′) = same (length xs) (le-refl (suc (length xs))) in
+      rw (s, s′) (record {
+        token = b .token;
+        past = b .past;
+        able = b .able;
+        very = b .very;
+        wide = b .wide;
+        made = b .made;
+        outwards =
+            back-marks l marks marks′ over over′ (m .«log_len») (m .keys) (over (length xs)) xs (λ k h. same k (omega arith))
+            (b .outwards);
+      })
 
--- From rows that are the same below the count.
-pub back-alike : (room : ℕ) (l : Log) (marks : ℕ → Mark) (used count : ℕ) (rs rs′ : Rows) (xs : List Saved) → count ≤ room
-    → WideRows rs room → WideRows rs′ room → Alike count rs rs′
-    → LeadsBack l marks used count rs xs → LeadsBack l marks used count rs′ xs
-back-alike room l marks used count rs rs′ [] f w w′ a b = b
-back-alike room l marks used count rs rs′ (x ∷ xs) f w w′ a b =
-    let record { token = token; past = len; able = able; made = made; outwards = rest } = b in
-    let m : Mark = marks (length xs) in
-    let es : List UndoLog = newestFirst l (m .«log_len») (used - m .«log_len») in
-    let a′ : Alike (m .keys) (undo rs es) (undo rs′ es) = undo-alike room (m .keys) count es rs rs′ f w w′ able a in (record {
-      token = token;
-      past = len;
-      able = able;
-      made = made-alike (undo rs′ es) a′ made;
-      outwards =
-          back-alike room l marks (m .«log_len») (m .keys) (undo rs es) (undo rs′ es) xs
-          (omega (arith, undoable-le (m .keys) count es able)) (wide-undo rs room es w) (wide-undo rs′ room es w′) a′ rest;
-    })
+  -- From rows that are the same below the count.
+  pub back-alike : (l : Log) (marks : ℕ → Mark) (over : ℕ → Rows) (used count : ℕ) (rs rs′ : Rows) (xs : List Saved) → count ≤ room
+      → WideRows rs room → WideRows rs′ room → Alike count rs rs′
+      → LeadsBack room l marks over used count rs xs → LeadsBack room l marks over used count rs′ xs
+  back-alike l marks over used count rs rs′ [] f w w′ a b = b
+  back-alike l marks over used count rs rs′ (x ∷ xs) f w w′ a b =
+      let m : Mark = marks (length xs) in
+      let es : List UndoLog = newestFirst l (m .«log_len») (used - m .«log_len») in
+      record {
+        token = b .token;
+        past = b .past;
+        able = b .able;
+        very = λ i h. sym (undo-alike room (m .keys) count es rs rs′ f w w′ (b .able) a i h) ∙ b .very i h;
+        wide = b .wide;
+        made = b .made;
+        outwards = b .outwards;
+      }
 
--- With one entry more, whose undoing gives back what it was before.
-pub back-entry : (l l′ : Log) (marks : ℕ → Mark) (used used′ count count′ : ℕ) (rs rs′ : Rows) (x : Saved) (xs : List Saved) (e : UndoLog)
-    → used′ ≡ used + 1
-    → ((j : ℕ) → j < used → entryAt l′ j ≡ entryAt l j) → entryAt l′ used ≡ e
-    → reversed rs′ e ≡ rs → ((keys : ℕ) (es : List UndoLog) → undoable keys count es ≡ true → undoable keys count′ (e ∷ es) ≡ true)
-    → LeadsBack l marks used count rs (x ∷ xs) → LeadsBack l′ marks used′ count′ rs′ (x ∷ xs)
-unfolding undo
-back-entry l l′ marks used used′ count count′ rs rs′ x xs e u same hit un able′ b =
-    let record { token = token; past = len; able = able; made = made; outwards = rest } = b in
-    let m : Mark = marks (length xs) in
-    let es : List UndoLog = newestFirst l (m .«log_len») (used - m .«log_len») in
-    let q : newestFirst l′ (m .«log_len») (used′ - m .«log_len») ≡ e ∷ es =
-    newest-more l l′ (m .«log_len») used used′ e u len same hit in
-    let r : undo rs′ (e ∷ es) ≡ undo rs es = ap (λ (z : Rows). undo z es) un in
-    rw (q, r) (record {
-      token = token;
-      past = omega arith;
-      able = able′ (m .keys) es able;
-      made = made;
-      outwards = back-log l l′ marks (m .«log_len») (m .keys) (undo rs es) xs (λ j h. same j (omega arith)) rest;
-    })
+  -- With one entry more, whose undoing gives back what it was before.
+  pub back-entry : (l l′ : Log) (marks : ℕ → Mark) (over : ℕ → Rows) (used used′ count count′ : ℕ) (rs rs′ : Rows) (x : Saved) (xs : List Saved)
+      → (e : UndoLog) → used′ ≡ used + 1 → ((j : ℕ) → j < used → entryAt l′ j ≡ entryAt l j) → entryAt l′ used ≡ e → reversed rs′ e ≡ rs
+      → ((keys : ℕ) (es : List UndoLog) → undoable keys count es ≡ true → undoable keys count′ (e ∷ es) ≡ true)
+      → LeadsBack room l marks over used count rs (x ∷ xs) → LeadsBack room l′ marks over used′ count′ rs′ (x ∷ xs)
+  unfolding undo
+  back-entry l l′ marks over used used′ count count′ rs rs′ x xs e u same hit un able b =
+      let m : Mark = marks (length xs) in
+      let p : m .«log_len» ≤ used = b .past in
+      let es : List UndoLog = newestFirst l (m .«log_len») (used - m .«log_len») in
+      let q : newestFirst l′ (m .«log_len») (used′ - m .«log_len») ≡ e ∷ es =
+      newest-more l l′ (m .«log_len») used used′ e u p same hit in
+      let r : undo rs′ (e ∷ es) ≡ undo rs es = ap (λ (z : Rows). undo z es) un in
+      rw q (record {
+        token = b .token;
+        past = omega arith;
+        able = able (m .keys) es (b .able);
+        very = rw r (b .very);
+        wide = b .wide;
+        made = b .made;
+        outwards = back-log l l′ marks over (m .«log_len») (m .keys) (over (length xs)) xs (λ j h. same j (omega arith)) (b .outwards);
+      })
 
--- The innermost mark but one leads back over the entries of both.
-pub back-commit : (l : Log) (marks : ℕ → Mark) (used count : ℕ) (rs : Rows) (x y : Saved) (zs : List Saved)
-    → LeadsBack l marks used count rs (x ∷ y ∷ zs) → LeadsBack l marks used count rs (y ∷ zs)
-back-commit l marks used count rs x y zs b =
-    let record { token = token; past = len; able = able; made = made; outwards = rest } = b in
-    let record { token = token′; past = len′; able = able′; made = made′; outwards = rest′ } = rest in
-    let m : Mark = marks (length (y ∷ zs)) in
-    let m′ : Mark = marks (length zs) in
-    let young : List UndoLog = newestFirst l (m .«log_len») (used - m .«log_len») in
-    let old : List UndoLog = newestFirst l (m′ .«log_len») (m .«log_len» - m′ .«log_len») in
-    let z : m′ .«log_len» + (m .«log_len» - m′ .«log_len») ≡ m .«log_len» = omega arith in
-    let q : newestFirst l (m′ .«log_len») (used - m′ .«log_len») ≡ young ++ old =
-    newest-split l (m′ .«log_len») (m .«log_len» - m′ .«log_len») (used - m .«log_len») (used - m′ .«log_len») (omega arith)
-    ∙ ap (λ (n : ℕ). newestFirst l n (used - m .«log_len») ++ old) z in
-    rw (q, undo-append rs young old) (record {
-      token = token′;
-      past = omega arith;
-      able = undoable-append (m′ .keys) (m .keys) count young old able able′;
-      made = made′;
-      outwards = rest′;
-    })
+  -- The innermost mark but one leads back over the entries of both.
+  pub back-commit : (l : Log) (marks : ℕ → Mark) (over : ℕ → Rows) (used count : ℕ) (rs : Rows) (x y : Saved) (zs : List Saved)
+      → count ≤ room
+      → WideRows rs room → LeadsBack room l marks over used count rs (x ∷ y ∷ zs) → LeadsBack room l marks over used count rs (y ∷ zs)
+  back-commit l marks over used count rs x y zs f w b =
+      let b′ = b .outwards in
+      let m : Mark = marks (length (y ∷ zs)) in
+      let m′ : Mark = marks (length zs) in
+      let p : m .«log_len» ≤ used = b .past in
+      let p′ : m′ .«log_len» ≤ m .«log_len» = b′ .past in
+      let young : List UndoLog = newestFirst l (m .«log_len») (used - m .«log_len») in
+      let old : List UndoLog = newestFirst l (m′ .«log_len») (m .«log_len» - m′ .«log_len») in
+      let z : m′ .«log_len» + (m .«log_len» - m′ .«log_len») ≡ m .«log_len» = omega arith in
+      let q : newestFirst l (m′ .«log_len») (used - m′ .«log_len») ≡ young ++ old =
+      newest-split l (m′ .«log_len») (m .«log_len» - m′ .«log_len») (used - m .«log_len») (used - m′ .«log_len») (omega arith)
+      ∙ ap (λ (n : ℕ). newestFirst l n (used - m .«log_len») ++ old) z in
+      let fits : m .keys ≤ room = omega (arith, undoable-le (m .keys) count young (b .able)) in
+      rw q (record {
+        token = b′ .token;
+        past = omega arith;
+        able = undoable-append (m′ .keys) (m .keys) count young old (b .able) (b′ .able);
+        very = rw (undo-append rs young old) (λ i h.
+            undo-alike room (m′ .keys) (m .keys) old (undo rs young) (over (length (y ∷ zs))) fits (wide-undo rs room young w) (b .wide)
+            (b′ .able) (b .very) i h ∙ b′ .very i h);
+        wide = b′ .wide;
+        made = b′ .made;
+        outwards = b′ .outwards;
+      })
 
--- No open mark is past the used log or the count.
-pub back-fits : (l : Log) (marks : ℕ → Mark) (used count : ℕ) (rs : Rows) (xs : List Saved) → LeadsBack l marks used count rs xs
-    → (k : ℕ) → k < length xs → (marks k .«log_len» ≤ used) × (marks k .keys ≤ count)
-back-fits l marks used count rs [] b k h = absurd (omega arith)
-back-fits l marks used count rs (x ∷ xs) b k h =
-    let record { token = token; past = len; able = able; made = made; outwards = rest } = b in
-    let m : Mark = marks (length xs) in
-    let es : List UndoLog = newestFirst l (m .«log_len») (used - m .«log_len») in
-    let below : m .keys ≤ count = undoable-le (m .keys) count es able in
-    bySame k (length xs)
-    (λ e. rw e (len, below))
-    (λ d. let (p, q) = back-fits l marks (m .«log_len») (m .keys) (undo rs es) xs rest k (omega arith) in (omega arith, omega arith))
+  -- No open mark is past the used log or the count.
+  pub back-fits : (l : Log) (marks : ℕ → Mark) (over : ℕ → Rows) (used count : ℕ) (rs : Rows) (xs : List Saved)
+      → LeadsBack room l marks over used count rs xs
+      → (k : ℕ) → k < length xs → (marks k .«log_len» ≤ used) × (marks k .keys ≤ count)
+  back-fits l marks over used count rs [] b k h = absurd (omega arith)
+  back-fits l marks over used count rs (x ∷ xs) b k h =
+      let m : Mark = marks (length xs) in
+      let p : m .«log_len» ≤ used = b .past in
+      let below : m .keys ≤ count = undoable-le (m .keys) count (newestFirst l (m .«log_len») (used - m .«log_len»)) (b .able) in
+      bySame k (length xs)
+      (λ e. rw e (p, below))
+      (λ d. let (q, q′) = back-fits l marks over (m .«log_len») (m .keys) (over (length xs)) xs (b .outwards) k
+      (omega arith) in (omega arith, omega arith))

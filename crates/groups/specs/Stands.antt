@@ -11,8 +11,8 @@ use Rattle.rules.specs.declared.table.Mark.{Mark}
 use Rattle.rules.specs.Numbers.{MAX-ROWS, MAX-ENTRIES, MAX-OPEN}
 use Rattle.rules.specs.Lent.{Rows, Log, Table, valueOf, rowAt, markAt}
 use Rattle.rules.specs.Tokens.{newestFirst, undoable, undo}
-use Rattle.groups.specs.Groups.{Groups, Deed, replay, Accepted}
-use Rattle.groups.specs.Track.{History, Saved, track, lastToken, Orderly}
+use Rattle.groups.specs.Groups.{Groups, Deed, at, replay, Accepted}
+use Rattle.groups.specs.Track.{History, Act, idle, moves, takes, undoes, closes, Saved, track, lastToken, Orderly}
 
 -- ---- rows that show groups
 
@@ -41,29 +41,6 @@ pub record Made (rs : Rows) (count : ℕ) (ds : List Deed) : Type 0 where
   pub counted : replay ds .count ≡ count
   pub shows : Shows rs (replay ds)
 
--- ---- a log that leads back
-
--- Back to the mark m of a snapshot, by undoing the entries `es` logged since, which leaves the rows `rs`.
-pub record Returns (m : Mark) (x : Saved) (used count : ℕ) (es : List UndoLog) (rs : Rows) (Outwards : Type 0) : Type 0 where
-  -- the mark is the snapshot's
-  pub token : m .serial ≡ x .token
-  -- it was set before those entries
-  pub past : m .«log_len» ≤ used
-  -- they can be undone, from `count` keys down to the mark's
-  pub able : undoable (m .keys) count es ≡ true
-  -- the rows show what had survived as it was set
-  pub made : Made rs (m .keys) (x .deeds)
-  -- and so on to the marks before it
-  pub outwards : Outwards
-
--- From the innermost mark outwards. With no snapshot open nothing is logged.
-abbrev pub LeadsBack : Log → (ℕ → Mark) → ℕ → ℕ → Rows → List Saved → Type 0
-LeadsBack l marks used count rs [] = used ≡ 0
-LeadsBack l marks used count rs (x ∷ xs) =
-    let m = marks (length xs) in
-    let es = newestFirst l (m .«log_len») (used - m .«log_len») in
-    Returns m x used count es (undo rs es) (LeadsBack l marks (m .«log_len») (m .keys) (undo rs es) xs)
-
 -- ---- what is lent
 
 abbrev pub WideRows : Rows → ℕ → Type 0
@@ -79,9 +56,49 @@ pub record Lends (rs : Rows) (l : Log) (rows entries : ℕ) : Type 0 where
   pub row-limit : rows ≤ MAX-ROWS
   pub log-limit : entries ≤ MAX-ENTRIES
 
+-- ---- a log that leads back
+
+-- The same rows below a count. "Rows past the count .. keep whatever the last write left."
+abbrev pub Alike : ℕ → Rows → Rows → Type 0
+Alike n rs rs′ = (i : ℕ) → i < n → rowAt rs i ≡ rowAt rs′ i
+
+-- Back to the mark m of the snapshot x, from the rows `rs`, by undoing the entries `es` logged since.
+pub record Returns (room : ℕ) (m : Mark) (x : Saved) (taken : Rows) (used count : ℕ) (es : List UndoLog) (rs : Rows)
+    (Outwards : Type 0) : Type 0 where
+  -- the mark is the snapshot's
+  pub token : m .serial ≡ x .token
+  -- it was set before those entries
+  pub past : m .«log_len» ≤ used
+  -- they can be undone, from `count` keys down to the mark's
+  pub able : undoable (m .keys) count es ≡ true
+  -- which gives back the very rows below the count that it was taken over
+  pub very : Alike (m .keys) (undo rs es) taken
+  -- and those show what had survived then
+  pub wide : WideRows taken room
+  pub made : Made taken (m .keys) (x .deeds)
+  -- and so on from there, to the marks before it
+  pub outwards : Outwards
+
+-- From the innermost mark outwards, over the rows that each open snapshot was taken over. With none open nothing is logged.
+abbrev pub LeadsBack : ℕ → Log → (ℕ → Mark) → (ℕ → Rows) → ℕ → ℕ → Rows → List Saved → Type 0
+LeadsBack room l marks over used count rs [] = used ≡ 0
+LeadsBack room l marks over used count rs (x ∷ xs) =
+    let m = marks (length xs) in
+    let taken = over (length xs) in
+    let es = newestFirst l (m .«log_len») (used - m .«log_len») in
+    Returns room m x taken used count es rs (LeadsBack room l marks over (m .«log_len») (m .keys) taken xs)
+
+-- The rows that open snapshots are taken over, by their number from the outermost, after a call on a table.
+abbrev pub overAfter : (ℕ → Rows) → Table → Act → ℕ → Rows
+overAfter over t idle = over
+overAfter over t (moves d) = over
+overAfter over t (takes token) = at (t .state .«open») (t .rows) over
+overAfter over t (undoes token) = over
+overAfter over t (closes token) = over
+
 -- ---- the two together
 
-pub record Stands (t : Table) (h : History) : Type 0 where
+pub record StandsOver (over : ℕ → Rows) (t : Table) (h : History) : Type 0 where
   -- what is lent has room for so many rows and entries, and the state is within it
   pub room : ℕ
   pub log-room : ℕ
@@ -95,7 +112,11 @@ pub record Stands (t : Table) (h : History) : Type 0 where
   -- the rows show the groups of the deeds that survive
   pub made : Made (t .rows) (t .state .count) (track h .now)
   -- and lead back to those of each open snapshot
-  pub back : LeadsBack (t .log) (markAt (t .state)) (t .state .used) (t .state .count) (t .rows) (track h .saved)
+  pub back : LeadsBack room (t .log) (markAt (t .state)) over (t .state .used) (t .state .count) (t .rows) (track h .saved)
   -- the history follows the tokens' rules, and no token of it is above the last serial
   pub orderly : Orderly h
   pub serials : lastToken h ≤ t .state .last
+
+-- Whatever its open snapshots were taken over.
+abbrev pub Stands : Table → History → Type 0
+Stands t h = (over : ℕ → Rows) × StandsOver over t h

@@ -23,8 +23,8 @@ use Rattle.rules.specs.Refusal.{Outcome, outcome, refuse, carry, sizesOf, bad}
 use Rattle.rules.specs.Step.{notLive, live, call, step}
 use Rattle.groups.specs.Groups.{Groups, Deed, replay}
 use Rattle.groups.specs.Shown.{walkOf, endOf, passedBy, rootOf, stepsOf, groupsOf, Same}
-use Rattle.groups.specs.Track.{History}
-use Rattle.groups.specs.Stands.{Made, Stands}
+use Rattle.groups.specs.Track.{History, event, act}
+use Rattle.groups.specs.Stands.{Made, overAfter, Stands}
 use Rattle.groups.proofs.Walks.{Holds, reaches}
 use Rattle.groups.proofs.Plans.{walk-holds}
 use Rattle.groups.proofs.RowCalls.{holds}
@@ -41,10 +41,10 @@ use Rattle.history.proofs.AccountLaws.{Account, account}
 
 module _ (t : Table) (h : History) (S : Stands t h) where
   pub survivors-made : Made (t .rows) (t .state .count) (surviving h)
-  survivors-made = rw (surviving-is h (S .orderly)) (S .made)
+  survivors-made = rw (surviving-is h (S .1 .orderly)) (S .1 .made)
 
-  survivors-hold : Holds (t .rows) (replay (surviving h)) (S .room)
-  survivors-hold = rw (surviving-is h (S .orderly)) (holds S)
+  survivors-hold : Holds (t .rows) (replay (surviving h)) (S .1 .room)
+  survivors-hold = rw (surviving-is h (S .1 .orderly)) (holds (S .1))
 
   pub groups-after : Same (groupsOf t) (replay (surviving h))
   groups-after = same-groups t survivors-hold (survivors-made .counted)
@@ -88,7 +88,7 @@ stands-demand t h S peace =
     let ds : List Deed = surviving h in
     let g : Groups = replay ds in
     let M : Made (t .rows) (t .state .count) ds = survivors-made t h S in
-    let H : Holds (t .rows) g (S .room) = survivors-hold t h S in
+    let H : Holds (t .rows) g (S .1 .room) = survivors-hold t h S in
     let G : Same (groupsOf t) g = groups-after t h S in
     let A : Account g ds = account ds (M .accepted) in
     let live : (key : ℕ) → Live t key → key < g .count = λ key l. rw (M .counted) l in
@@ -103,8 +103,8 @@ stands-demand t h S peace =
           (A .below (λ v. namedBy k (v .owner))),
     )
     (A .values r (live r (l .0)) (own r l) .owned k) in
-    let walked : (a : ℕ) → Live t a → Holds (afterWalk t a .rows) g (S .room) = λ a l.
-    subst⁻¹ (λ (p : Path). Holds (walkedOn (t .rows) (endOf p) (passedBy p) .rows) g (S .room))
+    let walked : (a : ℕ) → Live t a → Holds (afterWalk t a .rows) g (S .1 .room) = λ a l.
+    subst⁻¹ (λ (p : Path). Holds (walkedOn (t .rows) (endOf p) (passedBy p) .rows) g (S .1 .room))
     (walk-reaches t H (M .counted) a (live a l)) (walk-holds H a (live a l)) in
     record {
       ends = λ key l. (
@@ -130,7 +130,9 @@ pub told-stands : (cs : List Call) (s : Story) → Stands (s .table) (s .past) �
     → Stands (tell s cs .table) (tell s cs .past) × Peaceful (tell s cs .past)
 unfolding tell
 told-stands [] s S p = (S, p)
-told-stands (c ∷ cs) s S p = let K = keeps S c in told-stands cs (turn s c) (K .stands) (K .peace, p)
+told-stands (c ∷ cs) s S p =
+    let K = keeps (S .1) c in told-stands cs (turn s c)
+    (overAfter (S .0) (s .table) (act (event c (step (s .table) c .answer))), K .stands) (K .peace, p)
 
 pub demand-from : (s : Story) → Stands (s .table) (s .past) → Peaceful (s .past) → (cs : List Call)
     → Demand (tell s cs .table) (tell s cs .past)
@@ -139,4 +141,4 @@ demand-from s S p cs = let (S′, p′) = told-stands cs s S p in stands-demand 
 -- ---- the promise
 
 pub demand-3 : Demand-3
-demand-3 rs l rows entries lent = demand-from (begin rs l) (fresh-stands rs l rows entries lent) tt
+demand-3 rs l rows entries lent = demand-from (begin rs l) ((λ _. rs), fresh-stands rs l rows entries lent) tt
