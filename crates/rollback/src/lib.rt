@@ -1,0 +1,3 @@
+// Rollback: from ena's `rollback_to`. All entries are read before the first is undone, so that a refusal leaves the rows alone.
+pub mod rollback;
+pub mod undo;

@@ -1,0 +1,113 @@
+// The entries since a snapshot, read and undone newest first.
+ghost use mathlib.Core.Path.{_≡_};
+ghost use Prim.Native.Nat.{_-_};
+ghost use Rattle.rules.specs.Tokens.{newestFirst, undoable, undo};
+ghost use Rattle.rules.specs.Contract.{rowsNow, rowsLent, logNow, logLent};
+ghost use Rattle.rollback.specs.Since.{Since, Reversible, allowed, countBefore};
+use rules::table::UndoLog;
+use snapshot_vec::entries::entry_at;
+use snapshot_vec::update::reverse;
+
+// Whether an entry can be undone where `count` keys are left: a new row has to be the last, a changed row has to be there.
+fn allowed(entry: UndoLog, count: u32) -> bool
+    ensures { λ r. ⌜ r ≡ allowed entry count ⌝ }
+{
+    match entry {
+        UndoLog::NewElem(key) => {
+            if count == 0 {
+                return false;
+            }
+            key == count - 1
+        }
+        UndoLog::SetElem(key, _) => key < count,
+        UndoLog::Unknown => false,
+    }
+}
+
+// How many keys there were before what an entry tells of.
+fn count_before(entry: UndoLog, count: u32) -> u32
+    ensures { λ r. ⌜ r ≡ countBefore entry count ⌝ }
+{
+    match entry {
+        UndoLog::NewElem(key) => key,
+        UndoLog::SetElem(_, _) => count,
+        UndoLog::Unknown => count,
+    }
+}
+
+// Whether the entries from `base` up to `used` can all be undone, from `count` keys down to `keys`.
+pub fn undoable(
+    logkinds: &[u32],
+    logkeys: &[u32],
+    logparents: &[u32],
+    logranks: &[u32],
+    logowners: &[u32],
+    logamounts: &[u64],
+    base: u32,
+    used: u32,
+    keys: u32,
+    count: u32,
+) -> bool
+    requires { ⌜ Since base used (logNow logkinds logkeys logparents logranks logowners logamounts) ⌝ }
+    ensures { let log = logLent logkinds logkeys logparents logranks logowners logamounts in
+        λ r. ⌜ r ≡ undoable keys count (newestFirst (log .entry) base (used - base)) ⌝ }
+{
+    let mut unread = used - base;
+    let mut reached = count;
+    while unread > 0 {
+        unread -= 1;
+        let i = base + unread;
+        let entry = entry_at(
+            logkinds,
+            logkeys,
+            logparents,
+            logranks,
+            logowners,
+            logamounts,
+            i,
+        );
+        if !allowed(entry, reached) {
+            return false;
+        }
+        reached = count_before(entry, reached);
+    }
+    reached == keys
+}
+
+// Undoes the entries from `base` up to `used`.
+pub fn undo(
+    parents: &mut [u32],
+    ranks: &mut [u32],
+    owners: &mut [u32],
+    amounts: &mut [u64],
+    logkinds: &[u32],
+    logkeys: &[u32],
+    logparents: &[u32],
+    logranks: &[u32],
+    logowners: &[u32],
+    logamounts: &[u64],
+    base: u32,
+    used: u32,
+)
+    requires { ⌜ Since base used (logNow logkinds logkeys logparents logranks logowners logamounts) ⌝ }
+    requires { ⌜ Reversible (newestFirst (logNow logkinds logkeys logparents logranks logowners logamounts) base (used - base)) (rowsNow parents ranks owners amounts) ⌝ }
+    ensures { let rows = rowsLent parents ranks owners amounts in
+        let log = logLent logkinds logkeys logparents logranks logowners logamounts in
+        λ r. ⌜ rows .exit ≡ undo (rows .entry) (newestFirst (log .entry) base (used - base)) ⌝ }
+{
+    let mut left = used - base;
+    while left > 0 {
+        left -= 1;
+        let i = base + left;
+        let entry = entry_at(
+            logkinds,
+            logkeys,
+            logparents,
+            logranks,
+            logowners,
+            logamounts,
+            i,
+        );
+        reverse(parents, ranks, owners, amounts, entry);
+    }
+}
