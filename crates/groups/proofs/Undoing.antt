@@ -18,7 +18,7 @@ use Rattle.rules.specs.Lent.{Rows, Log, kindOf, keyOf, oldOf, putRow, entryAt, 
 use Rattle.rules.specs.Tokens.{newestFirst, undoable, reversed, undo}
 use Rattle.groups.specs.Groups.{Deed}
 use Rattle.groups.specs.Track.{Saved}
-use Rattle.groups.specs.Stands.{Made, WideRows, WideLog, Alike, LeadsBack}
+use Rattle.groups.specs.Stands.{Made, WideRows, WideLog, Alike, sinceMark, LeadsBack}
 use Rattle.groups.proofs.Tools.{bySame}
 use Rattle.groups.proofs.RowLaws.{Real, row-hit, row-miss, wide-put, alike-put}
 use Rattle.groups.proofs.Forest.{shows-alike}
@@ -189,7 +189,7 @@ module _ (room : ℕ) where
   back-alike l marks over used count rs rs′ [] f w w′ a b = b
   back-alike l marks over used count rs rs′ (x ∷ xs) f w w′ a b =
       let m : Mark = marks (length xs) in
-      let es : List UndoLog = newestFirst l (m .«log_len») (used - m .«log_len») in
+      let es : List UndoLog = sinceMark l m used in
       record {
         token = b .token;
         past = b .past;
@@ -209,8 +209,8 @@ module _ (room : ℕ) where
   back-entry l l′ marks over used used′ count count′ rs rs′ x xs e u same hit un able b =
       let m : Mark = marks (length xs) in
       let p : m .«log_len» ≤ used = b .past in
-      let es : List UndoLog = newestFirst l (m .«log_len») (used - m .«log_len») in
-      let q : newestFirst l′ (m .«log_len») (used′ - m .«log_len») ≡ e ∷ es =
+      let es : List UndoLog = sinceMark l m used in
+      let q : sinceMark l′ m used′ ≡ e ∷ es =
       newest-more l l′ (m .«log_len») used used′ e u p same hit in
       let r : undo rs′ (e ∷ es) ≡ undo rs es = ap (λ (z : Rows). undo z es) un in
       rw q (record {
@@ -233,10 +233,10 @@ module _ (room : ℕ) where
       let m′ : Mark = marks (length zs) in
       let p : m .«log_len» ≤ used = b .past in
       let p′ : m′ .«log_len» ≤ m .«log_len» = b′ .past in
-      let young : List UndoLog = newestFirst l (m .«log_len») (used - m .«log_len») in
-      let old : List UndoLog = newestFirst l (m′ .«log_len») (m .«log_len» - m′ .«log_len») in
+      let young : List UndoLog = sinceMark l m used in
+      let old : List UndoLog = sinceMark l m′ (m .«log_len») in
       let z : m′ .«log_len» + (m .«log_len» - m′ .«log_len») ≡ m .«log_len» = omega arith in
-      let q : newestFirst l (m′ .«log_len») (used - m′ .«log_len») ≡ young ++ old =
+      let q : sinceMark l m′ used ≡ young ++ old =
       newest-split l (m′ .«log_len») (m .«log_len» - m′ .«log_len») (used - m .«log_len») (used - m′ .«log_len») (omega arith)
       ∙ ap (λ (n : ℕ). newestFirst l n (used - m .«log_len») ++ old) z in
       let fits : m .keys ≤ room = omega (arith, undoable-le (m .keys) count young (b .able)) in
@@ -260,7 +260,7 @@ module _ (room : ℕ) where
   back-fits l marks over used count rs (x ∷ xs) b k h =
       let m : Mark = marks (length xs) in
       let p : m .«log_len» ≤ used = b .past in
-      let below : m .keys ≤ count = undoable-le (m .keys) count (newestFirst l (m .«log_len») (used - m .«log_len»)) (b .able) in
+      let below : m .keys ≤ count = undoable-le (m .keys) count (sinceMark l m used) (b .able) in
       bySame k (length xs)
       (λ e. rw e (p, below))
       (λ d. let (q, q′) = back-fits l marks over (m .«log_len») (m .keys) (over (length xs)) xs (b .outwards) k

@@ -62,6 +62,10 @@ pub record Lends (rs : Rows) (l : Log) (rows entries : ℕ) : Type 0 where
 abbrev pub Alike : ℕ → Rows → Rows → Type 0
 Alike n rs rs′ = (i : ℕ) → i < n → rowAt rs i ≡ rowAt rs′ i
 
+-- The entries logged since a mark, "newest first".
+abbrev pub sinceMark : Log → Mark → ℕ → List UndoLog
+sinceMark l m used = newestFirst l (m .«log_len») (used - m .«log_len»)
+
 -- Back to the mark m of the snapshot x, from the rows `rs`, by undoing the entries `es` logged since.
 pub record Returns (room : ℕ) (m : Mark) (x : Saved) (taken : Rows) (used count : ℕ) (es : List UndoLog) (rs : Rows)
     (Outwards : Type 0) : Type 0 where
@@ -85,8 +89,7 @@ LeadsBack room l marks over used count rs [] = used ≡ 0
 LeadsBack room l marks over used count rs (x ∷ xs) =
     let m = marks (length xs) in
     let taken = over (length xs) in
-    let es = newestFirst l (m .«log_len») (used - m .«log_len») in
-    Returns room m x taken used count es rs (LeadsBack room l marks over (m .«log_len») (m .keys) taken xs)
+    Returns room m x taken used count (sinceMark l m used) rs (LeadsBack room l marks over (m .«log_len») (m .keys) taken xs)
 
 -- The rows that open snapshots are taken over, by their number from the outermost, after a call on a table.
 abbrev pub overAfter : (ℕ → Rows) → Table → Act → ℕ → Rows
