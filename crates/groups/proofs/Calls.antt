@@ -1,0 +1,106 @@
+-- Every call keeps what a table stands for, and is never answered BROKEN_TABLE or BAD_STATE; and a fresh table stands for nothing yet.
+use mathlib.Core.Path.{_≡_, refl, sym, _∙_}
+use mathlib.Core.Bool.{false}
+use mathlib.Core.List.{List, [], _∷_}
+use Prim.Native.Nat.{ℕ, zero-le}
+use native.Mathlib.Omega.{arith}
+use lib.Dec.{ltb}
+use Rattle.rules.specs.declared.call.Call.{Call}
+use Rattle.rules.specs.declared.call.Call.the-variants.{New, Len, Find, Unioned, Join, Post, Probe, ProbeKey, TryProbe, Snapshot, Rollback, Commit, Keys, Actions, Changes}
+use Rattle.rules.specs.Lent.{Rows, Log, Table, table, value, ownerOf, fresh}
+use Rattle.rules.specs.Answer.{said, range, opened}
+use Rattle.rules.specs.Plan.{findOn, unionedOn, joinOn, postOn, probeOn, probeKeyOn, tryProbe}
+use Rattle.rules.specs.Refusal.{sizesOf, bad}
+use Rattle.rules.proofs.StateLaws.{good-bad}
+use Rattle.rules.specs.Step.{call, step}
+use Rattle.groups.specs.Groups.{replay}
+use Rattle.groups.specs.Track.{History, Saved, track, lastToken, Orderly}
+use Rattle.groups.specs.Stands.{Lends, StandsOver}
+use Rattle.groups.proofs.Forest.{shows-none}
+use Rattle.groups.proofs.Plans.{calm, find-planned, probe-planned, probe-key-planned, try-planned, post-planned, unioned-planned, join-planned}
+use Rattle.groups.proofs.Kept.{Keeps, keeps-idle}
+use Rattle.groups.proofs.RowCalls.{holds, keeps-live, keeps-one, keeps-two, keeps-new}
+use Rattle.groups.proofs.TokenCalls.{Restores, busy, keeps-snapshot, keeps-rollback, rollback-restores, keeps-commit, keeps-ask}
+
+module _ {over : ℕ → Rows} {t : Table} {h : History} (S : StandsOver over t h) where
+  -- ---- any call
+
+  keeps-call : (c : Call) → Keeps over t h c (call t c)
+  unfolding call
+  keeps-call (New owner amount) = keeps-new S owner amount
+  keeps-call Len = keeps-idle S Len (range 0 (t .state .count)) refl (calm 0 refl refl)
+  keeps-call (Find key) = keeps-one S (Find key) key findOn (find-planned (track h .now) (S .made .accepted) (holds S) key)
+  keeps-call (Unioned a b) = keeps-two S (Unioned a b) a b unionedOn (unioned-planned (track h .now) (S .made .accepted) (holds S) a b)
+  keeps-call (Join a b) = keeps-two S (Join a b) a b joinOn (join-planned (track h .now) (S .made .accepted) (holds S) a b)
+  keeps-call (Post key owner amount) =
+      keeps-one S (Post key owner amount) key (postOn (value (ownerOf owner) amount))
+      (post-planned (track h .now) (S .made .accepted) (holds S) key owner amount)
+  keeps-call (Probe key) = keeps-one S (Probe key) key probeOn (probe-planned (track h .now) (S .made .accepted) (holds S) key)
+  keeps-call (ProbeKey key) =
+      keeps-one S (ProbeKey key) key probeKeyOn (probe-key-planned (track h .now) (S .made .accepted) (holds S) key)
+  keeps-call (TryProbe key) =
+      keeps-live S (TryProbe key) key (tryProbe (t .rows) key) (λ _. try-planned (track h .now) (S .made .accepted) (holds S) key)
+  keeps-call Snapshot = keeps-snapshot S
+  keeps-call (Rollback token) = keeps-rollback S token (track h .saved) refl
+  keeps-call (Commit token) = keeps-commit S token (track h .saved) refl
+  keeps-call (Keys token) = keeps-ask S (Keys token) token (λ m. range (m .keys) (t .state .count)) (λ m. refl) (λ m. calm 0 refl refl)
+  keeps-call (Actions token) =
+      keeps-ask S (Actions token) token (λ m. range (m .«log_len») (t .state .used)) (λ m. refl) (λ m. calm 0 refl refl)
+  keeps-call (Changes token) =
+      keeps-ask S (Changes token) token (λ m. said (ltb (m .«log_len») (t .state .used)) 0) (λ m. refl) (λ m. calm 0 refl refl)
+
+  -- "nothing open and used not 0" is not so.
+  nothing-used : (ys : List Saved) → track h .saved ≡ ys → t .state .«open» ≡ 0 → t .state .used ≡ 0
+  nothing-used [] e z = rw e at (S .back)
+  nothing-used (x ∷ xs) e z = absurd (busy S x xs e z)
+
+  -- The state and what is lent are not bad.
+  not-bad : bad (sizesOf t) (t .state) ≡ false
+  not-bad =
+      let R = S .lends .row-parts in
+      let L = S .lends .log-parts in
+      good-bad (sizesOf t) (t .state) (record {
+        level = record {
+          ranks = R .1 ∙ sym (R .0);
+          owners = R .2 ∙ sym (R .0);
+          amounts = R .3 ∙ sym (R .0);
+          keys = L .1 ∙ sym (L .0);
+          old-parents = L .2 .0 ∙ sym (L .0);
+          old-ranks = L .2 .1 ∙ sym (L .0);
+          old-owners = L .2 .2 ∙ sym (L .0);
+          old-amounts = L .2 .3 ∙ sym (L .0);
+        };
+        rows = rw (R .0) (S .lends .row-limit);
+        log = rw (L .0) (S .lends .log-limit);
+        count = rw (R .0) (S .fits);
+        used = rw (L .0) (S .log-fits);
+        opened = omega (arith, S .opened, S .open-fits);
+        shut = nothing-used (track h .saved) refl;
+      })
+
+  pub keeps : (c : Call) → Keeps over t h c (step t c)
+  unfolding step
+  keeps c = rw not-bad (keeps-call c)
+
+  pub restores : (token : ℕ) → Restores over t (step t (Rollback token))
+  unfolding step call
+  restores token = rw not-bad (rollback-restores S token (track h .saved) refl)
+
+-- ---- the first case: a fresh table, whatever its lent rows and entries hold, and the empty history
+
+pub fresh-stands : (rs : Rows) (l : Log) (rows entries : ℕ) → Lends rs l rows entries → StandsOver (λ _. rs) (table rs l fresh) []
+unfolding track lastToken Orderly replay
+fresh-stands rs l rows entries L = record {
+  room = rows;
+  log-room = entries;
+  lends = L;
+  fits = zero-le;
+  log-fits = zero-le;
+  marks-kept = refl;
+  open-fits = zero-le;
+  opened = refl;
+  made = record { accepted = tt; counted = refl; shows = shows-none rs };
+  back = refl;
+  orderly = tt;
+  serials = zero-le;
+}

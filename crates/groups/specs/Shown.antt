@@ -1,0 +1,41 @@
+-- The groups that a table shows, read off it by the walk of the rules.
+use mathlib.Core.Path.{_≡_}
+use mathlib.Core.List.{List, []}
+use Prim.Native.Nat.{ℕ, _<_}
+use Rattle.rules.specs.Numbers.{MAX-REDIRECTS}
+use Rattle.rules.specs.Lent.{Table, valueOf, rowAt}
+use Rattle.rules.specs.Walk.{Path, broken, to, path, steps}
+use Rattle.groups.specs.Groups.{Groups}
+
+-- ---- the walk from a key
+
+abbrev pub walkOf : Table → ℕ → Path
+walkOf t key = path (t .rows .parents) (t .state .count) MAX-REDIRECTS key
+
+abbrev pub endOf : Path → ℕ
+endOf broken = 0
+endOf (to root passed) = root
+
+abbrev pub passedBy : Path → List ℕ
+passedBy broken = []
+passedBy (to root passed) = passed
+
+abbrev pub rootOf : Table → ℕ → ℕ
+rootOf t key = endOf (walkOf t key)
+
+abbrev pub stepsOf : Table → ℕ → ℕ
+stepsOf t key = steps (passedBy (walkOf t key))
+
+-- ---- the groups
+
+abbrev pub groupsOf : Table → Groups
+groupsOf t =
+    record { count = t .state .count; root = rootOf t; rank = λ r. rowAt (t .rows) r .rank; value = λ r. valueOf (rowAt (t .rows) r) }
+
+-- The same keys, each with the same root, and each root with the same rank and value: "only a root's rank, owner and amount mean
+-- anything".
+pub record Same (g g′ : Groups) : Type 0 where
+  pub count : g .count ≡ g′ .count
+  pub root : (key : ℕ) → key < g′ .count → g .root key ≡ g′ .root key
+  pub rank : (r : ℕ) → r < g′ .count → g′ .root r ≡ r → g .rank r ≡ g′ .rank r
+  pub value : (r : ℕ) → r < g′ .count → g′ .root r ≡ r → g .value r ≡ g′ .value r
