@@ -32,13 +32,14 @@ run o (c ∷ cs) = run (step (o .table) c) cs
 -- ---- what an example looks at afterwards
 
 data Look : Type 0 where
-  number key steps used : Look
+  number key token steps used : Look
   parent rank owner amount : ℕ → Look
   entryKind entryKey entryParent : ℕ → Look
 
 seen : Outcome → Look → ℕ
 seen o number = o .answer .no
 seen o key = o .answer .key
+seen o token = o .answer .token
 seen o steps = o .answer .steps
 seen o used = o .table .state .used
 seen o (parent i) = rowAt (o .table .rows) i .parent
@@ -103,9 +104,30 @@ examples =
     ∷ example 8 (Find 0 ∷ []) ((number, 1) ∷ [])
     ∷ []
 
+-- Two more that 01's rules fix and its examples don't reach: a walk of three steps rewrites and logs the row nearest the root first,
+-- and leaves the row just below the root; a commit takes no serial back.
+abbrev eight : List Call
+eight =
+    New 0 1 ∷ New 0 1 ∷ New 0 1 ∷ New 0 1 ∷ New 0 1 ∷ New 0 1 ∷ New 0 1 ∷ New 0 1
+    ∷ Join 0 1 ∷ Join 2 3 ∷ Join 4 5 ∷ Join 6 7 ∷ Join 1 3 ∷ Join 5 7 ∷ Join 3 7 ∷ []
+
+corners : List Example
+corners =
+    example 8 (eight ++ (Snapshot ∷ Find 0 ∷ []))
+    ((number, 0) ∷ (key, 7) ∷ (steps, 3) ∷ (used, 2) ∷ (entryKey 0, 1) ∷ (entryParent 0, 3) ∷ (entryKey 1, 0) ∷ (entryParent 1, 1)
+    ∷ (parent 0, 7) ∷ (parent 1, 7) ∷ (parent 3, 7) ∷ [])
+    ∷ example 8 (Snapshot ∷ Commit 1 ∷ Snapshot ∷ []) ((number, 0) ∷ (token, 2) ∷ [])
+    ∷ []
+
 -- After each example's calls everything looked at is as 01 says.
 examples-hold
     : map (λ (e : Example). map (λ (x : Look × ℕ). seen (after e) (x .0)) (e .expected)) examples
     ≡ map (λ (e : Example). map (λ (x : Look × ℕ). x .1) (e .expected)) examples
 unfolding examples run seen step call bad merge path writes puts rewrites seek newestFirst undoable undo
 examples-hold = refl
+
+corners-hold
+    : map (λ (e : Example). map (λ (x : Look × ℕ). seen (after e) (x .0)) (e .expected)) corners
+    ≡ map (λ (e : Example). map (λ (x : Look × ℕ). x .1) (e .expected)) corners
+unfolding corners run seen step call bad merge path writes puts rewrites seek newestFirst undoable undo
+corners-hold = refl
