@@ -1,0 +1,38 @@
+-- What is answered of the actions since a snapshot, at each end. Assumes nothing.
+use mathlib.Core.Path.{_≡_, refl, sym, _∙_, ap}
+use mathlib.Core.Bool.{Bool, true, false}
+use Prim.Native.Nat.{ℕ}
+use Rattle.rules.specs.declared.call.Call.the-variants.{Actions}
+use Rattle.rules.specs.declared.call.Answer.{Answer}
+use Rattle.rules.specs.declared.call.Answered.{Answered}
+use Rattle.rules.specs.declared.table.Mark.{Mark}
+use Rattle.rules.specs.declared.table.Sought.{Sought}
+use Rattle.rules.specs.declared.table.Sought.the-variants.{Missing, Held}
+use Rattle.rules.specs.declared.table.State.{State}
+use Rattle.rules.specs.Numbers.{BROKEN-TABLE, BAD-STATE}
+use Rattle.rules.specs.Lent.{Table, table}
+use Rattle.rules.specs.Answer.{refusal, range, answered, refuseState}
+use Rattle.rules.specs.Tokens.{seek, unfit, asked, actionsSince}
+use Rattle.rules.specs.Refusal.{Outcome, outcome, sizesOf, bad}
+use Rattle.rules.specs.Step.{call, step}
+
+-- ---- a question hands the state back as it came
+
+kept : (s : State) (a : Answer) (b : Bool) → refuseState b BROKEN-TABLE s (answered a s) .state ≡ s
+kept s a true = refl
+kept s a false = refl
+
+asked-kept : (s : State) (reply : Mark → Answer) (w : Sought) → asked s reply w .state ≡ s
+asked-kept s reply Missing = refl
+asked-kept s reply (Held m) = kept s (reply m) (unfit s m)
+
+module _ (t : Table) (token : ℕ) where
+  pub answer-bad : (a : Answer) → bad (sizesOf t) (t .state) ≡ true → a ≡ refusal BAD-STATE → outcome a t ≡ step t (Actions token)
+  unfolding step
+  answer-bad a b e = rw (b, e)
+
+  pub answer-done : (r : Answered) → bad (sizesOf t) (t .state) ≡ false → r ≡ actionsSince (t .state) token → outcome (r .answer) t ≡ step t (Actions token)
+  unfolding step call
+  answer-done r b e =
+      let k = asked-kept (t .state) (λ m. range (m .«log_len») (t .state .used)) (seek (t .state) token (t .state .«open»)) in
+      rw (b, e) (ap {B = Outcome} (λ s. outcome (actionsSince (t .state) token .answer) (table (t .rows) (t .log) s)) (sym k))
