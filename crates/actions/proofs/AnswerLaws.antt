@@ -10,11 +10,13 @@ use Rattle.rules.specs.declared.table.Sought.{Sought}
 use Rattle.rules.specs.declared.table.Sought.the-variants.{Missing, Held}
 use Rattle.rules.specs.declared.table.State.{State}
 use Rattle.rules.specs.Numbers.{BROKEN-TABLE, BAD-STATE}
-use Rattle.rules.specs.Lent.{Table, table}
+use Rattle.rules.specs.Lent.{Log, Table, table}
 use Rattle.rules.specs.Answer.{refusal, range, answered, refuseState}
-use Rattle.rules.specs.Tokens.{seek, unfit, asked, actionsSince}
+use Rattle.rules.specs.Tokens.{seek, unfit, asked, actionsSince, actionsView}
 use Rattle.rules.specs.Refusal.{Outcome, outcome, sizesOf, bad}
 use Rattle.rules.specs.Step.{call, step}
+use Rattle.actions.specs.declared.view.Shown.{Shown}
+use Rattle.actions.specs.View.{shown, seen, Since}
 
 -- ---- a question hands the state back as it came
 
@@ -36,3 +38,7 @@ module _ (t : Table) (token : ℕ) where
   answer-done r b e =
       let k = asked-kept (t .state) (λ m. range (m .«log_len») (t .state .used)) (seek (t .state) token (t .state .«open»)) in
       rw (b, e) (ap {B = Outcome} (λ s. outcome (actionsSince (t .state) token .answer) (table (t .rows) (t .log) s)) (sym k))
+
+-- What is handed out shows the entries since the snapshot.
+pub since-seen : (before after : Table) (token : ℕ) (r : Shown) → Since before after token r → shown (r .view) ≡ seen before token
+since-seen before after token r h = h .view ∙ ap {B = Log} (λ o. actionsView (before .log) (o .answer)) (h .answered)

@@ -20,7 +20,8 @@ use undo_log::state::bad_state;
 use undo_log::tokens::actions_since;
 
 // The number, and where in the log the entries since the snapshot lie. The state stays as it came, so it is not handed back.
-pub fn answer_since(
+// What ends in `_of` takes slices of any lifetimes.
+pub fn answer_of(
     state: State,
     parents: &[u32],
     ranks: &[u32],
@@ -56,8 +57,8 @@ pub fn answer_since(
     answered.answer
 }
 
-// The same at one lifetime: a view's six parts share one, and so does all that a walk over it calls.
-pub fn answer_of<'a>(
+// The same at one lifetime: a view's six parts share one, and so does all that makes or reads a view.
+pub fn answer_since<'a>(
     state: State,
     parents: &'a [u32],
     ranks: &'a [u32],
@@ -74,7 +75,7 @@ pub fn answer_of<'a>(
     ensures { let t = tableLent parents ranks owners amounts logkinds logkeys logparents logranks logowners logamounts in
         λ r. ⌜ outcome r (t .exit state) ≡ step (t .entry state) (Actions token) ⌝ }
 {
-    answer_since(
+    answer_of(
         state,
         parents,
         ranks,
@@ -227,8 +228,8 @@ pub fn entry_between(
     entry_of(kinds, keys, parents, ranks, owners, amounts, i)
 }
 
-// Entry `i` since the snapshot that a token names, with no view: for callers whose slices have lifetimes of their own.
-pub fn action_at(
+// Entry `i` since the snapshot that a token names, with no view in between: for slices of any lifetimes.
+pub fn action_of(
     state: State,
     parents: &[u32],
     ranks: &[u32],
@@ -246,7 +247,7 @@ pub fn action_at(
     ensures { let t = tableLent parents ranks owners amounts logkinds logkeys logparents logranks logowners logamounts in
         λ r. ⌜ r ≡ entryAt (seen (t .entry state) token) i ⌝ }
 {
-    let answer = answer_since(
+    let answer = answer_of(
         state,
         parents,
         ranks,

@@ -3,8 +3,8 @@ ghost use lib.ListN.{length};
 ghost use Rattle.rules.specs.Lent.{entryAt};
 ghost use Rattle.rules.specs.Tokens.{viewed};
 ghost use Rattle.rules.specs.Contract.{logLent, tableLent};
-ghost use Rattle.actions.specs.View.{shown, Since};
-use crate::core::answer_of;
+ghost use Rattle.actions.specs.View.{shown, seen, Since};
+use crate::core::answer_since;
 use crate::core::part32;
 use crate::core::part64;
 use rules::call::Answer;
@@ -28,7 +28,7 @@ pub struct Shown<'a> {
 }
 
 // A part of the log as a view.
-pub fn actions_from<'a>(
+fn actions_from<'a>(
     logkinds: &'a [u32],
     logkeys: &'a [u32],
     logparents: &'a [u32],
@@ -68,7 +68,7 @@ pub fn actions_since_snapshot<'a>(
     ensures { let t = tableLent parents ranks owners amounts logkinds logkeys logparents logranks logowners logamounts in
         λ r. ⌜ Since (t .entry state) (t .exit state) token r ⌝ }
 {
-    let answer = answer_of(
+    let answer = answer_since(
         state,
         parents,
         ranks,
@@ -107,4 +107,41 @@ pub fn entry<'a>(v: Actions<'a>, i: usize) -> UndoLog
     ensures { λ r. ⌜ r ≡ entryAt (shown (v .entry)) i ⌝ }
 {
     crate::core::entry_at(v.kinds, v.keys, v.parents, v.ranks, v.owners, v.amounts, i)
+}
+
+// Entry `i` since the snapshot that a token names, read through the view. Its parameters are slices and numbers, so a caller
+// needs no walk.
+pub fn action_at<'a>(
+    state: State,
+    parents: &'a [u32],
+    ranks: &'a [u32],
+    owners: &'a [u32],
+    amounts: &'a [u64],
+    logkinds: &'a [u32],
+    logkeys: &'a [u32],
+    logparents: &'a [u32],
+    logranks: &'a [u32],
+    logowners: &'a [u32],
+    logamounts: &'a [u64],
+    token: u64,
+    i: usize,
+) -> UndoLog
+    ensures { let t = tableLent parents ranks owners amounts logkinds logkeys logparents logranks logowners logamounts in
+        λ r. ⌜ r ≡ entryAt (seen (t .entry state) token) i ⌝ }
+{
+    let shown = actions_since_snapshot(
+        state,
+        parents,
+        ranks,
+        owners,
+        amounts,
+        logkinds,
+        logkeys,
+        logparents,
+        logranks,
+        logowners,
+        logamounts,
+        token,
+    );
+    entry(shown.view, i)
 }

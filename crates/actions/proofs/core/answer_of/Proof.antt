@@ -1,4 +1,4 @@
--- `core::answer_since` meets its contract: BAD_STATE, or what the rule answers of the token. Assumes nothing.
+-- `core::answer_of` meets its contract: BAD_STATE, or what the rule answers of the token. Assumes nothing.
 use mathlib.Core.Path.{_≡_, sym, _∙_}
 use mathlib.Core.Bool.{false}
 use borrow.Author.Needs.{needs}
@@ -7,8 +7,8 @@ use Rattle.rules.specs.Refusal.{sizesOf, bad}
 use Rattle.rules.specs.Contract.{rowsNow, logNow}
 use Rattle.rules.proofs.StateLaws.{bad-good}
 use Rattle.actions.proofs.AnswerLaws.{answer-bad, answer-done}
-use Rattle.actions.proofs.core.answer_since.Statement.{statement}
-use Rattle.actions.proofs.core.answer_since.Tie as tie
+use Rattle.actions.proofs.core.answer_of.Statement.{statement}
+use Rattle.actions.proofs.core.answer_of.Tie as tie
 
 abbrev tableAt : tie.Start → Table
 tableAt e = let a = e .args in table (rowsNow (a .parents) (a .ranks) (a .owners) (a .amounts)) (logNow (a .logkinds) (a .logkeys) (a .logparents) (a .logranks) (a .logowners) (a .logamounts)) (a .state)
@@ -22,7 +22,7 @@ actions-since-requires c κs = let t = tableAt (c .before .before .before .befor
 returns-2 : tie.Need-returns-2
 returns-2 c = let e = c .before .before .before .before .before .before .before .before .before .before .before .before .before .before in answer-done (tableAt e) (e .args .token) _ (sym (c .before .before .before .bad-state .ensures) ∙ c .before .before .if1 .left) (c .before .actions-since .ensures)
 
-pub answer-since-spec : {M : Type 1} → statement M
-answer-since-spec =
+pub answer-of-spec : {M : Type 1} → statement M
+answer-of-spec =
     tie.close
     (tie.spec (λ c κs. search needs) (λ c κs. search needs) returns actions-since-requires returns-2)
