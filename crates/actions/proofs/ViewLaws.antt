@@ -5,11 +5,15 @@ use mathlib.Core.List.{List, [], _∷_}
 use Prim.Native.Nat.{ℕ, zero, suc, _+_, _-_, _<_, _≤_}
 use native.Mathlib.Omega.{arith}
 use lib.ListN.{length, getD, take, drop, length-drop}
+use Rattle.rules.specs.declared.call.Call.the-variants.{Actions}
 use Rattle.rules.specs.declared.table.UndoLog.the-variants.{Unknown}
-use Rattle.rules.specs.Lent.{Log, entryAt}
+use Rattle.rules.specs.Lent.{Log, Table, entryAt}
 use Rattle.rules.specs.Answer.{refusal}
 use Rattle.rules.specs.Tokens.{part, viewed, actionsView}
+use Rattle.rules.specs.Step.{step}
+use Rattle.actions.specs.View.{seen}
 use Rattle.actions.proofs.PartLaws.{logOf}
+use Rattle.actions.proofs.AnswerLaws.{answer-below}
 
 pub refused-empty : (l : Log) (n : ℕ) → actionsView l (refusal n) ≡ logOf [] [] [] [] [] []
 refused-empty l n = refl
@@ -60,3 +64,7 @@ module _ (l : Log) (a e : ℕ) where
 
   pub view-past : (i : ℕ) → e - a ≤ i → entryAt (viewed l a e) i ≡ Unknown
   view-past i h = rw (past (drop a (l .kinds)) (e - a) i h)
+
+-- Of any table, the view is as long as the range that is answered.
+pub seen-length : (t : Table) (token : ℕ) → length (seen t token .kinds) ≡ step t (Actions token) .answer .to - step t (Actions token) .answer .from
+seen-length t token = view-length (t .log) (step t (Actions token) .answer .from) (step t (Actions token) .answer .to) (answer-below t token)

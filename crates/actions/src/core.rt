@@ -145,7 +145,7 @@ fn number64(s: &[u64], i: usize) -> u64
     0
 }
 
-// The row at a place of four slices of any lengths.
+// The row at a place of four slices of any lengths: nothing is asked of a view, so its parts may differ.
 fn row_of(parents: &[u32], ranks: &[u32], owners: &[u32], amounts: &[u64], i: usize) -> Row
     ensures { let rows = rowsLent parents ranks owners amounts in λ r. ⌜ r ≡ rowAt (rows .entry) i ⌝ }
 {
