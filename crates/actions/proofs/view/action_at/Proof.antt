@@ -71,42 +71,8 @@ use Rattle.actions.proofs.view.action_at.Statement as stated
 use Rattle.actions.proofs.view.action_at.Code as code
 
 abbrev stayed : Stays (f.ended .signature .params) (f.ended .kept)
-stayed = (
-  stay-none (λ _. Z.the-row) yes,
-  (
-    stay-none-slice (0 ∷ []) tt (plain (λ _. u32)) yes,
-    (
-      stay-none-slice (0 ∷ []) tt (plain (λ _. u32)) yes,
-      (
-        stay-none-slice (0 ∷ []) tt (plain (λ _. u32)) yes,
-        (
-          stay-none-slice (0 ∷ []) tt (plain (λ _. u64)) yes,
-          (
-            stay-none-slice (0
-                ∷ []) tt (plain (λ _. u32)) yes,
-            (
-              stay-none-slice (0 ∷ []) tt (plain (λ _. u32)) yes,
-              (
-                stay-none-slice (0 ∷ []) tt (plain (λ _. u32)) yes,
-                (
-                  stay-none-slice (0 ∷ []) tt (plain (λ _. u32)) yes,
-                  (
-                    stay-none-slice (0 ∷ []) tt (plain (λ _. u32)) yes,
-                    (
-                      stay-none-slice (0
-                          ∷ []) tt (plain (λ _. u64)) yes,
-                      (stay-none (λ _. u64) yes, (stay-none (λ _. usize) yes, tt)),
-                    ),
-                  ),
-                ),
-              ),
-            ),
-          ),
-        ),
-      ),
-    ),
-  ),
-)
+stayed =
+    (stay-none (λ _. Z.the-row) yes, (stay-none-slice (0 ∷ []) tt (plain (λ _. u32)) yes, (stay-none-slice (0 ∷ []) tt (plain (λ _. u32)) yes, (stay-none-slice (0 ∷ []) tt (plain (λ _. u32)) yes, (stay-none-slice (0 ∷ []) tt (plain (λ _. u64)) yes, (stay-none-slice (0 ∷ []) tt (plain (λ _. u32)) yes, (stay-none-slice (0 ∷ []) tt (plain (λ _. u32)) yes, (stay-none-slice (0 ∷ []) tt (plain (λ _. u32)) yes, (stay-none-slice (0 ∷ []) tt (plain (λ _. u32)) yes, (stay-none-slice (0 ∷ []) tt (plain (λ _. u32)) yes, (stay-none-slice (0 ∷ []) tt (plain (λ _. u64)) yes, (stay-none (λ _. u64) yes, (stay-none (λ _. usize) yes, tt)))))))))))))
 
 module _ {M : Type 1} (𝓤 : URA M) (H : Heap 𝓤) (A : Atoms 𝓤) (mem : Memory → SProp 𝓤) (run : Routine → Fun 𝓤) where
   -- the contracts that the proof cites
@@ -127,41 +93,16 @@ module _ {M : Type 1} (𝓤 : URA M) (H : Heap 𝓤) (A : Atoms 𝓤) (W : Given
       (state, (parents, (ranks, (owners, (amounts, (logkinds, (logkeys, (logparents, (logranks, (logowners, (logamounts, (token, (i, tt)))))))))))))
 
   abbrev at : Vals f.signature κs
-  at = (
-    stateVal state ∷ [],
-    (
-      v parents ∷ [],
-      (
-        v ranks ∷ [],
-        (
-          v owners ∷ [],
-          (
-            v amounts ∷ [],
-            (
-              v logkinds ∷ [],
-              (
-                v logkeys ∷ [],
-                (
-                  v logparents ∷ [],
-                  (v logranks ∷ [], (v logowners ∷ [], (v logamounts ∷ [], (vint w64 token ∷ [], (vint w64 i ∷ [], tt))))),
-                ),
-              ),
-            ),
-          ),
-        ),
-      ),
-    ),
-  )
+  at =
+      (stateVal state ∷ [], (v parents ∷ [], (v ranks ∷ [], (v owners ∷ [], (v amounts ∷ [], (v logkinds ∷ [], (v logkeys ∷ [], (v logparents ∷ [], (v logranks ∷ [], (v logowners ∷ [], (v logamounts ∷ [], (vint w64 token ∷ [], (vint w64 i ∷ [], tt)))))))))))))
 
   abbrev machs : List Val
   machs =
-      stateVal state ∷ v parents ∷ v ranks ∷ v owners ∷ v amounts ∷ v logkinds ∷ v logkeys ∷ v logparents ∷ v logranks ∷ v logowners ∷ v logamounts
-      ∷ vint w64 token ∷ vint w64 i ∷ []
+      stateVal state ∷ v parents ∷ v ranks ∷ v owners ∷ v amounts ∷ v logkinds ∷ v logkeys ∷ v logparents ∷ v logranks ∷ v logowners ∷ v logamounts ∷ vint w64 token ∷ vint w64 i ∷ []
 
   abbrev Kept : Fml
   Kept =
-      owns (Z.the-row ∷ Sl κ u32 ∷ Sl κ u32 ∷ Sl κ u32 ∷ Sl κ u64 ∷ Sl κ u32 ∷ Sl κ u32 ∷ Sl κ u32 ∷ Sl κ u32 ∷ Sl κ u32 ∷ Sl κ u64 ∷ u64 ∷ usize
-      ∷ []) args at
+      owns (Z.the-row ∷ Sl κ u32 ∷ Sl κ u32 ∷ Sl κ u32 ∷ Sl κ u64 ∷ Sl κ u32 ∷ Sl κ u32 ∷ Sl κ u32 ∷ Sl κ u32 ∷ Sl κ u32 ∷ Sl κ u64 ∷ u64 ∷ usize ∷ []) args at
 
   -- the table that is lent, over a state
   abbrev before : State → Table
@@ -176,31 +117,8 @@ module _ {M : Type 1} (𝓤 : URA M) (H : Heap 𝓤) (A : Atoms 𝓤) (W : Given
       (state, (parents, (ranks, (owners, (amounts, (logkinds, (logkeys, (logparents, (logranks, (logowners, (logamounts, (token, tt))))))))))))
 
   abbrev show-at : Vals show.signature κs
-  show-at = (
-    stateVal state ∷ [],
-    (
-      v parents ∷ [],
-      (
-        v ranks ∷ [],
-        (
-          v owners ∷ [],
-          (
-            v amounts ∷ [],
-            (
-              v logkinds ∷ [],
-              (
-                v logkeys ∷ [],
-                (
-                  v logparents ∷ [],
-                  (v logranks ∷ [], (v logowners ∷ [], (v logamounts ∷ [], (vint w64 token ∷ [], tt)))),
-                ),
-              ),
-            ),
-          ),
-        ),
-      ),
-    ),
-  )
+  show-at =
+      (stateVal state ∷ [], (v parents ∷ [], (v ranks ∷ [], (v owners ∷ [], (v amounts ∷ [], (v logkinds ∷ [], (v logkeys ∷ [], (v logparents ∷ [], (v logranks ∷ [], (v logowners ∷ [], (v logamounts ∷ [], (vint w64 token ∷ [], tt))))))))))))
 
   abbrev to-show : Show 𝓤 H A mem run .Ghost
   to-show = ((κs, (q, tt), tt, show-args, show-at), tt)
@@ -244,8 +162,8 @@ module _ {M : Type 1} (𝓤 : URA M) (H : Heap 𝓤) (A : Atoms 𝓤) (W : Given
       split ! $ move ! (0 ∷ 2 ∷ []) $ fjoin ! $ move ! (1 ∷ 2 ∷ []) $ fjoin ! $
       -- [what the call asks; what is kept; the token]
       move ! (2 ∷ 0 ∷ []) $
-      use2 W (raw (Show 𝓤 H A mem run .pre to-show)) (qed W ((‵ (flft κ q) ⊛ ‵ ftrue)
-      ∷ ‵ (owns (Z.the-row ∷ Sl κ u32 ∷ Sl κ u32 ∷ Sl κ u32 ∷ Sl κ u64 ∷ Sl κ u32 ∷ Sl κ u32 ∷ Sl κ u32 ∷ Sl κ u32 ∷ Sl κ u32 ∷ Sl κ u64 ∷ u64 ∷ []) show-args show-at) ∷ []) ∵ join ! $
+      use2 W (raw (Show 𝓤 H A mem run .pre to-show))
+      (qed W ((‵ (flft κ q) ⊛ ‵ ftrue) ∷ ‵ (owns (Z.the-row ∷ Sl κ u32 ∷ Sl κ u32 ∷ Sl κ u32 ∷ Sl κ u64 ∷ Sl κ u32 ∷ Sl κ u32 ∷ Sl κ u32 ∷ Sl κ u32 ∷ Sl κ u32 ∷ Sl κ u64 ∷ u64 ∷ []) show-args show-at) ∷ []) ∵ join ! $
       frame ! $ done !) $ frame ! $ done !
 
   show-said : (r : Shown)
@@ -277,28 +195,7 @@ module _ {M : Type 1} (𝓤 : URA M) (H : Heap 𝓤) (A : Atoms 𝓤) (W : Given
       → ent 𝓤 (⋆ 𝓤 H A (‵ (S.the-row .own x (u ∷ [])) ∷ (‵ (flft κ q) ⊛ ‵ ftrue) ∷ ‵ Kept ∷ [])) (Post u)
   exits x u e =
       qed W (‵ (S.the-row .own x (u ∷ [])) ∷ (‵ (flft κ q) ⊛ ‵ ftrue) ∷ ‵ Kept ∷ []) ∵
-      suffices ! _ (ends-at 𝓤 H A f.ended stayed (f.clauses 𝓤 H A mem run) W ((κs, (q, tt), tt, args, at), tt) u x (
-        tt,
-        (
-          tt,
-          (
-            tt,
-            (
-              tt,
-              (
-                tt,
-                (
-                  tt,
-                  (
-                    tt,
-                    (tt, (tt, (tt, (tt, (tt, (tt, tt)))))),
-                  ),
-                ),
-              ),
-            ),
-          ),
-        ),
-      ) (tt, (tt, (tt, (tt, (tt, (tt, (tt, (tt, (tt, (tt, (tt, (tt, (tt, tt)))))))))))))) $
+      suffices ! _ (ends-at 𝓤 H A f.ended stayed (f.clauses 𝓤 H A mem run) W ((κs, (q, tt), tt, args, at), tt) u x (tt, (tt, (tt, (tt, (tt, (tt, (tt, (tt, (tt, (tt, (tt, (tt, (tt, tt))))))))))))) (tt, (tt, (tt, (tt, (tt, (tt, (tt, (tt, (tt, (tt, (tt, (tt, (tt, tt)))))))))))))) $
       says ! e $
       move ! (1 ∷ []) $ frame ! $ move ! (1 ∷ []) $ frame ! $ done !
 
@@ -379,112 +276,17 @@ module _ {M : Type 1} (𝓤 : URA M) (H : Heap 𝓤) (A : Atoms 𝓤) (W : Given
       → Triple 𝓤 (C #actions·view·entry) (Next 𝓤 H A mem run) → Walks 𝓤 H A f.ended stayed (WpFn 𝓤 H C Λ code.function) (f.clauses 𝓤 H A mem run)
   action-at-walks C Λ fm known-show known-next =
       walked 𝓤 H A f.ended stayed (f.clauses 𝓤 H A mem run) (WpFn 𝓤 H C Λ code.function)
-      (λ κs. (
-        LL.vals Z.the-type Z′.the-laws,
-        (
-          slice-vals,
-          (
-            slice-vals,
-            (
-              slice-vals,
-              (
-                slice-vals,
-                (
-                  slice-vals,
-                  (
-                    slice-vals,
-                    (
-                      slice-vals,
-                      (
-                        slice-vals,
-                        (slice-vals, (slice-vals, (uint-vals w64, (uint-vals w64, tt)))),
-                      ),
-                    ),
-                  ),
-                ),
-              ),
-            ),
-          ),
-        ),
-      ))
-      (λ κs. (
-        LL.tells Z.the-type Z′.the-laws,
-        (
-          shr-slice-tells (named 0) (κs .0) u32,
-          (
-            shr-slice-tells (named 0) (κs .0) u32,
-            (
-              shr-slice-tells (named 0) (κs .0) u32,
-              (
-                shr-slice-tells (named 0) (κs .0) u64,
-                (
-                  shr-slice-tells (named 0) (κs .0) u32,
-                  (
-                    shr-slice-tells (named 0) (κs .0) u32,
-                    (
-                      shr-slice-tells (named 0) (κs .0) u32,
-                      (
-                        shr-slice-tells (named 0) (κs .0) u32,
-                        (shr-slice-tells (named 0) (κs .0) u32, (shr-slice-tells (named 0) (κs .0) u64, (uint-tells w64, (uint-tells w64, tt)))),
-                      ),
-                    ),
-                  ),
-                ),
-              ),
-            ),
-          ),
-        ),
-      ))
-      (λ κs qs bounds a g are. via 𝓤 _ (fst∗ 𝓤 _ (emp 𝓤)) (walk 𝓤 H A W mem run (κs .0) (qs .0) (a .0) (a .1 .0) (a .1 .1 .0) (a .1 .1 .1 .0)
-      (a .1 .1 .1 .1 .0) (a .1 .1 .1 .1 .1 .0) (a .1 .1 .1 .1 .1 .1 .0) (a .1 .1 .1 .1 .1 .1 .1 .0) (a .1 .1 .1 .1 .1 .1 .1 .1 .0)
-      (a .1 .1 .1 .1 .1 .1 .1 .1 .1 .0) (a .1 .1 .1 .1 .1 .1 .1 .1 .1 .1 .0) (a .1 .1 .1 .1 .1 .1 .1 .1 .1 .1 .1 .0)
-      (a .1 .1 .1 .1 .1 .1 .1 .1 .1 .1 .1 .1 .0) (are .1 .1 .1 .1 .1 .1 .1 .1 .1 .1 .1 .0 .1)
-      (are .1 .1 .1 .1 .1 .1 .1 .1 .1 .1 .1 .1 .0 .1) C Λ fm known-show known-next (are .0) (are .1 .0) (are .1 .1 .0) (are .1 .1 .1 .0)
-      (are .1 .1 .1 .1 .0) (are .1 .1 .1 .1 .1 .0) (are .1 .1 .1 .1 .1 .1 .0) (are .1 .1 .1 .1 .1 .1 .1 .0) (are .1 .1 .1 .1 .1 .1 .1 .1 .0)
-      (are .1 .1 .1 .1 .1 .1 .1 .1 .1 .0) (are .1 .1 .1 .1 .1 .1 .1 .1 .1 .1 .0)))
+      (λ κs. (LL.vals Z.the-type Z′.the-laws, (slice-vals, (slice-vals, (slice-vals, (slice-vals, (slice-vals, (slice-vals, (slice-vals, (slice-vals, (slice-vals, (slice-vals, (uint-vals w64, (uint-vals w64, tt))))))))))))))
+      (λ κs. (LL.tells Z.the-type Z′.the-laws, (shr-slice-tells (named 0) (κs .0) u32, (shr-slice-tells (named 0) (κs .0) u32, (shr-slice-tells (named 0) (κs .0) u32, (shr-slice-tells (named 0) (κs .0) u64, (shr-slice-tells (named 0) (κs .0) u32, (shr-slice-tells (named 0) (κs .0) u32, (shr-slice-tells (named 0) (κs .0) u32, (shr-slice-tells (named 0) (κs .0) u32, (shr-slice-tells (named 0) (κs .0) u32, (shr-slice-tells (named 0) (κs .0) u64, (uint-tells w64, (uint-tells w64, tt))))))))))))))
+      (λ κs qs bounds a g are. via 𝓤 _ (fst∗ 𝓤 _ (emp 𝓤)) (walk 𝓤 H A W mem run (κs .0) (qs .0) (a .0) (a .1 .0) (a .1 .1 .0) (a .1 .1 .1 .0) (a .1 .1 .1 .1 .0) (a .1 .1 .1 .1 .1 .0) (a .1 .1 .1 .1 .1 .1 .0) (a .1 .1 .1 .1 .1 .1 .1 .0) (a .1 .1 .1 .1 .1 .1 .1 .1 .0) (a .1 .1 .1 .1 .1 .1 .1 .1 .1 .0) (a .1 .1 .1 .1 .1 .1 .1 .1 .1 .1 .0) (a .1 .1 .1 .1 .1 .1 .1 .1 .1 .1 .1 .0) (a .1 .1 .1 .1 .1 .1 .1 .1 .1 .1 .1 .1 .0) (are .1 .1 .1 .1 .1 .1 .1 .1 .1 .1 .1 .0 .1) (are .1 .1 .1 .1 .1 .1 .1 .1 .1 .1 .1 .1 .0 .1) C Λ fm known-show known-next (are .0) (are .1 .0) (are .1 .1 .0) (are .1 .1 .1 .0) (are .1 .1 .1 .1 .0) (are .1 .1 .1 .1 .1 .0) (are .1 .1 .1 .1 .1 .1 .0) (are .1 .1 .1 .1 .1 .1 .1 .0) (are .1 .1 .1 .1 .1 .1 .1 .1 .0) (are .1 .1 .1 .1 .1 .1 .1 .1 .1 .0) (are .1 .1 .1 .1 .1 .1 .1 .1 .1 .1 .0)))
 
 action-at-meets : {M : Type 1} (𝓤 : URA M) (H : Heap 𝓤) (A : Atoms 𝓤) (W : Given 𝓤 H A) (mem : Memory → SProp 𝓤) (run : Routine
     → Fun 𝓤) (𝓣 : Tables 𝓤 H)
     → Triple 𝓤 (𝓣 .C #actions·view·actions-since-snapshot) (Show 𝓤 H A mem run) → Triple 𝓤 (𝓣 .C #actions·view·entry) (Next 𝓤 H A mem run)
     → Meets 𝓤 H A f.signature (WpFn 𝓤 H (𝓣 .C) (𝓣 .Λ) code.function) (f.spec 𝓤 H A mem run)
 action-at-meets 𝓤 H A W mem run 𝓣 known-show known-next =
-    walk-meets 𝓤 H A f.ended stayed W (
-      goes-none 𝓤 H A W 1 (λ _. Z.the-row) yes (λ κs x f. refl),
-      (
-        goes-none-slice 𝓤 H A W 1 (0 ∷ []) tt (plain (λ _. u32)) yes,
-        (
-          goes-none-slice 𝓤 H A W 1 (0 ∷ []) tt (plain (λ _. u32)) yes,
-          (
-            goes-none-slice 𝓤 H A W 1 (0 ∷ []) tt (plain (λ _. u32)) yes,
-            (
-              goes-none-slice 𝓤 H A W 1 (0 ∷ []) tt (plain (λ _. u64)) yes,
-              (
-                goes-none-slice 𝓤 H A W 1 (0 ∷ []) tt (plain (λ _. u32)) yes,
-                (
-                  goes-none-slice 𝓤 H A W 1 (0 ∷ []) tt (plain (λ _. u32)) yes,
-                  (
-                    goes-none-slice 𝓤 H A W 1 (0 ∷ []) tt (plain (λ _. u32)) yes,
-                    (
-                      goes-none-slice 𝓤 H A W 1 (0 ∷ []) tt (plain (λ _. u32)) yes,
-                      (
-                        goes-none-slice 𝓤 H A W 1 (0 ∷ []) tt (plain (λ _. u32)) yes,
-                        (
-                          goes-none-slice 𝓤 H A W 1 (0 ∷ []) tt (plain (λ _. u64)) yes,
-                          (
-                            goes-none 𝓤 H A W 1 (λ _. u64) yes (λ κs x f. refl),
-                            (goes-none 𝓤 H A W 1 (λ _. usize) yes (λ κs x f. refl), tt),
-                          ),
-                        ),
-                      ),
-                    ),
-                  ),
-                ),
-              ),
-            ),
-          ),
-        ),
-      ),
-    )
+    walk-meets 𝓤 H A f.ended stayed W
+    (goes-none 𝓤 H A W 1 (λ _. Z.the-row) yes (λ κs x f. refl), (goes-none-slice 𝓤 H A W 1 (0 ∷ []) tt (plain (λ _. u32)) yes, (goes-none-slice 𝓤 H A W 1 (0 ∷ []) tt (plain (λ _. u32)) yes, (goes-none-slice 𝓤 H A W 1 (0 ∷ []) tt (plain (λ _. u32)) yes, (goes-none-slice 𝓤 H A W 1 (0 ∷ []) tt (plain (λ _. u64)) yes, (goes-none-slice 𝓤 H A W 1 (0 ∷ []) tt (plain (λ _. u32)) yes, (goes-none-slice 𝓤 H A W 1 (0 ∷ []) tt (plain (λ _. u32)) yes, (goes-none-slice 𝓤 H A W 1 (0 ∷ []) tt (plain (λ _. u32)) yes, (goes-none-slice 𝓤 H A W 1 (0 ∷ []) tt (plain (λ _. u32)) yes, (goes-none-slice 𝓤 H A W 1 (0 ∷ []) tt (plain (λ _. u32)) yes, (goes-none-slice 𝓤 H A W 1 (0 ∷ []) tt (plain (λ _. u64)) yes, (goes-none 𝓤 H A W 1 (λ _. u64) yes (λ κs x f. refl), (goes-none 𝓤 H A W 1 (λ _. usize) yes (λ κs x f. refl), tt)))))))))))))
     (f.clauses 𝓤 H A mem run) (WpFn 𝓤 H (𝓣 .C) (𝓣 .Λ) code.function) (WpFn-mono 𝓤 H (W .laws) 𝓣 code.function)
     (action-at-walks 𝓤 H A W mem run (𝓣 .C) (𝓣 .Λ) (fmOf 𝓤 H (W .laws) 𝓣) known-show known-next)
 

@@ -58,23 +58,8 @@ use Rattle.actions.proofs.view.actions_from.Statement as stated
 use Rattle.actions.proofs.view.actions_from.Code as code
 
 abbrev stayed : Stays (f.ended .signature .params) (f.ended .kept)
-stayed = (
-  stay-none-slice (0 ∷ []) tt (plain (λ _. u32)) yes,
-  (
-    stay-none-slice (0 ∷ []) tt (plain (λ _. u32)) yes,
-    (
-      stay-none-slice (0
-          ∷ []) tt (plain (λ _. u32)) yes,
-      (
-        stay-none-slice (0 ∷ []) tt (plain (λ _. u32)) yes,
-        (
-          stay-none-slice (0 ∷ []) tt (plain (λ _. u32)) yes,
-          (stay-none-slice (0 ∷ []) tt (plain (λ _. u64)) yes, (stay-none (λ _. u32) yes, (stay-none (λ _. u32) yes, tt))),
-        ),
-      ),
-    ),
-  ),
-)
+stayed =
+    (stay-none-slice (0 ∷ []) tt (plain (λ _. u32)) yes, (stay-none-slice (0 ∷ []) tt (plain (λ _. u32)) yes, (stay-none-slice (0 ∷ []) tt (plain (λ _. u32)) yes, (stay-none-slice (0 ∷ []) tt (plain (λ _. u32)) yes, (stay-none-slice (0 ∷ []) tt (plain (λ _. u32)) yes, (stay-none-slice (0 ∷ []) tt (plain (λ _. u64)) yes, (stay-none (λ _. u32) yes, (stay-none (λ _. u32) yes, tt))))))))
 
 abbrev made : RefT (List ℕ) → RefT (List ℕ) → RefT (List ℕ) → RefT (List ℕ) → RefT (List ℕ) → RefT (List ℕ) → Actions
 made r₁ r₂ r₃ r₄ r₅ r₆ = record { kinds = r₁; keys = r₂; parents = r₃; ranks = r₄; owners = r₅; amounts = r₆ }
@@ -124,16 +109,8 @@ module _ {M : Type 1} (𝓤 : URA M) (H : Heap 𝓤) (A : Atoms 𝓤) (W : Given
       split ! $
       nothing ! $ owned ! u32 (Is u32) (uint-makes 𝓤 H A W w32) to _ (refl, fits-to) $ fjoin ! $
       owned ! u32 (Is u32) (uint-makes 𝓤 H A W w32) from _ (refl, fits-from) $ fjoin ! $ move ! (1 ∷ 0 ∷ []) $ fjoin ! $ move ! (2 ∷ 0 ∷ []) $
-      use2 W (raw (Part32 𝓤 H A mem run .pre (to32 s))) (qed W ((‵ (flft κ q) ⊛ ‵ ftrue) ∷ ‵ (owns (Sl κ u32 ∷ u32 ∷ u32 ∷ []) (
-        s,
-        (
-          from,
-          (
-            to,
-            tt,
-          ),
-        ),
-      ) (passed32 s)) ∷ []) ∵ join ! $
+      use2 W (raw (Part32 𝓤 H A mem run .pre (to32 s)))
+      (qed W ((‵ (flft κ q) ⊛ ‵ ftrue) ∷ ‵ (owns (Sl κ u32 ∷ u32 ∷ u32 ∷ []) (s, (from, (to, tt))) (passed32 s)) ∷ []) ∵ join ! $
       frame ! $ done !) $ frame ! $ done !
 
   said32 : (s r : RefT (List ℕ))
@@ -154,16 +131,8 @@ module _ {M : Type 1} (𝓤 : URA M) (H : Heap 𝓤) (A : Atoms 𝓤) (W : Given
       split ! $
       nothing ! $ owned ! u32 (Is u32) (uint-makes 𝓤 H A W w32) to _ (refl, fits-to) $ fjoin ! $
       owned ! u32 (Is u32) (uint-makes 𝓤 H A W w32) from _ (refl, fits-from) $ fjoin ! $ move ! (1 ∷ 0 ∷ []) $ fjoin ! $ move ! (2 ∷ 0 ∷ []) $
-      use2 W (raw (Part64 𝓤 H A mem run .pre (to64 s))) (qed W ((‵ (flft κ q) ⊛ ‵ ftrue) ∷ ‵ (owns (Sl κ u64 ∷ u32 ∷ u32 ∷ []) (
-        s,
-        (
-          from,
-          (
-            to,
-            tt,
-          ),
-        ),
-      ) (passed64 s)) ∷ []) ∵ join ! $
+      use2 W (raw (Part64 𝓤 H A mem run .pre (to64 s)))
+      (qed W ((‵ (flft κ q) ⊛ ‵ ftrue) ∷ ‵ (owns (Sl κ u64 ∷ u32 ∷ u32 ∷ []) (s, (from, (to, tt))) (passed64 s)) ∷ []) ∵ join ! $
       frame ! $ done !) $ frame ! $ done !
 
   said64 : (s r : RefT (List ℕ))
@@ -174,24 +143,8 @@ module _ {M : Type 1} (𝓤 : URA M) (H : Heap 𝓤) (A : Atoms 𝓤) (W : Given
       → now r₄ ≡ part from to (now s₄) → now r₅ ≡ part from to (now s₅) → now r₆ ≡ part from to (now s₆)
       → ent 𝓤 (⋆ 𝓤 H A ((‵ (flft κ q) ⊛ ‵ ftrue) ∷ ‵ (Own32 κ s₁) ∷ ‵ (Own32 κ s₂) ∷ ‵ (Own32 κ s₃) ∷ ‵ (Own32 κ s₄) ∷ ‵ (Own32 κ s₅) ∷ ‵ (Own64 κ s₆) ∷ ‵ (Own32 κ r₁) ∷ ‵ (Own32 κ r₂) ∷ ‵ (Own32 κ r₃) ∷ ‵ (Own32 κ r₄) ∷ ‵ (Own32 κ r₅) ∷ ‵ (Own64 κ r₆) ∷ [])) (Post (T′.lowered (made r₁ r₂ r₃ r₄ r₅ r₆)))
   exits r₁ r₂ r₃ r₄ r₅ r₆ e₁ e₂ e₃ e₄ e₅ e₆ =
-      qed W ((‵ (flft κ q) ⊛ ‵ ftrue) ∷ ‵ (Own32 κ s₁) ∷ ‵ (Own32 κ s₂) ∷ ‵ (Own32 κ s₃) ∷ ‵ (Own32 κ s₄) ∷ ‵ (Own32 κ s₅) ∷ ‵ (Own64 κ s₆)
-      ∷ ‵ (Own32 κ r₁) ∷ ‵ (Own32 κ r₂) ∷ ‵ (Own32 κ r₃) ∷ ‵ (Own32 κ r₄) ∷ ‵ (Own32 κ r₅) ∷ ‵ (Own64 κ r₆) ∷ []) ∵
-      suffices ! _ (ends-at 𝓤 H A f.ended stayed (f.clauses 𝓤 H A mem run) W (
-        (κs, (q, tt), tt, args, at),
-        tt,
-      ) (T′.lowered (made r₁ r₂ r₃ r₄ r₅ r₆)) (made r₁ r₂ r₃ r₄ r₅ r₆) (tt, (tt, (tt, (tt, (tt, (tt, (tt, (tt, tt)))))))) (
-        tt,
-        (
-          tt,
-          (
-            tt,
-            (
-              tt,
-              (tt, (tt, (tt, (tt, tt)))),
-            ),
-          ),
-        ),
-      )) $
+      qed W ((‵ (flft κ q) ⊛ ‵ ftrue) ∷ ‵ (Own32 κ s₁) ∷ ‵ (Own32 κ s₂) ∷ ‵ (Own32 κ s₃) ∷ ‵ (Own32 κ s₄) ∷ ‵ (Own32 κ s₅) ∷ ‵ (Own64 κ s₆) ∷ ‵ (Own32 κ r₁) ∷ ‵ (Own32 κ r₂) ∷ ‵ (Own32 κ r₃) ∷ ‵ (Own32 κ r₄) ∷ ‵ (Own32 κ r₅) ∷ ‵ (Own64 κ r₆) ∷ []) ∵
+      suffices ! _ (ends-at 𝓤 H A f.ended stayed (f.clauses 𝓤 H A mem run) W ((κs, (q, tt), tt, args, at), tt) (T′.lowered (made r₁ r₂ r₃ r₄ r₅ r₆)) (made r₁ r₂ r₃ r₄ r₅ r₆) (tt, (tt, (tt, (tt, (tt, (tt, (tt, (tt, tt)))))))) (tt, (tt, (tt, (tt, (tt, (tt, (tt, (tt, tt))))))))) $
       says ! (same-log _ _ _ _ _ _ _ _ _ _ _ _ e₁ e₂ e₃ e₄ e₅ e₆) $ frame ! $ nothing ! $
       owned ! u32 (Is u32) (uint-makes 𝓤 H A W w32) to _ (refl, fits-to) $ fjoin ! $
       owned ! u32 (Is u32) (uint-makes 𝓤 H A W w32) from _ (refl, fits-from) $ fjoin ! $ move ! (6 ∷ 0 ∷ []) $ fjoin ! $ move ! (5 ∷ 0 ∷ []) $
@@ -309,34 +262,8 @@ module _ {M : Type 1} (𝓤 : URA M) (H : Heap 𝓤) (A : Atoms 𝓤) (W : Given
         assigns ! (agg ! (and-then ! (load ! (from-local ! (stop !)) (look ! 23 refl)) (and-then ! (load ! (from-local ! (stop !)) (look ! 21 refl))
         (and-then ! (load ! (from-local ! (stop !)) (look ! 19 refl)) (and-then ! (load ! (from-local ! (stop !)) (look ! 17 refl))
         (and-then ! (load ! (from-local ! (stop !)) (look ! 15 refl))
-        (and-then ! (load ! (from-local ! (stop !)) (look ! 13 refl)) (no-more !)))))))) (from-local ! (stop !)) (init ! 41 refl (
-          tt,
-          (
-            (
-              tt,
-              (record { fits = is₁ .0 .1 .0 }, tt),
-            ),
-            (
-              (tt, (record { fits = is₂ .0 .1 .0 }, tt)),
-              (
-                (tt, (record { fits = is₃ .0 .1 .0 }, tt)),
-                (
-                  (
-                    tt,
-                    (record { fits = is₄ .0 .1 .0 }, tt),
-                  ),
-                  (
-                    (tt, (record { fits = is₅ .0 .1 .0 }, tt)),
-                    (
-                      (tt, (record { fits = is₆ .0 .1 .0 }, tt)),
-                      tt,
-                    ),
-                  ),
-                ),
-              ),
-            ),
-          ),
-        )) $
+        (and-then ! (load ! (from-local ! (stop !)) (look ! 13 refl)) (no-more !)))))))) (from-local ! (stop !))
+        (init ! 41 refl (tt, ((tt, (record { fits = is₁ .0 .1 .0 }, tt)), ((tt, (record { fits = is₂ .0 .1 .0 }, tt)), ((tt, (record { fits = is₃ .0 .1 .0 }, tt)), ((tt, (record { fits = is₄ .0 .1 .0 }, tt)), ((tt, (record { fits = is₅ .0 .1 .0 }, tt)), ((tt, (record { fits = is₆ .0 .1 .0 }, tt)), tt)))))))) $
         returns ! (look ! 41 refl) $ forget ! 41 refl $ forget ! 39 refl $ forget ! 37 refl $ forget ! 35 refl $ forget ! 33 refl $ forget ! 31 refl $
         forget ! 29 refl $ forget ! 27 refl $ forget ! 25 refl $ forget ! 23 refl $ forget ! 21 refl $ forget ! 19 refl $ forget ! 17 refl $
         forget ! 15 refl $ forget ! 13 refl $
@@ -353,57 +280,16 @@ module _ {M : Type 1} (𝓤 : URA M) (H : Heap 𝓤) (A : Atoms 𝓤) (W : Given
   actions-from-walks C Λ fm known32 known64 =
       walked 𝓤 H A f.ended stayed (f.clauses 𝓤 H A mem run) (WpFn 𝓤 H C Λ code.function)
       (λ κs. (slice-vals, (slice-vals, (slice-vals, (slice-vals, (slice-vals, (slice-vals, (uint-vals w32, (uint-vals w32, tt)))))))))
-      (λ κs. (
-        shr-slice-tells (named 0) (κs .0) u32,
-        (
-          shr-slice-tells (named 0) (κs .0) u32,
-          (
-            shr-slice-tells (named 0) (κs .0) u32,
-            (
-              shr-slice-tells (named 0) (κs .0) u32,
-              (
-                shr-slice-tells (named 0) (κs .0) u32,
-                (
-                  shr-slice-tells (named 0) (κs .0) u64,
-                  (
-                    uint-tells w32,
-                    (uint-tells w32, tt),
-                  ),
-                ),
-              ),
-            ),
-          ),
-        ),
-      ))
-      (λ κs qs bounds a g are. via 𝓤 _ (fst∗ 𝓤 _ (emp 𝓤)) (walk 𝓤 H A W mem run (κs .0) (qs .0) (a .0) (a .1 .0) (a .1 .1 .0) (a .1 .1 .1 .0)
-      (a .1 .1 .1 .1 .0) (a .1 .1 .1 .1 .1 .0) (a .1 .1 .1 .1 .1 .1 .0) (a .1 .1 .1 .1 .1 .1 .1 .0) (are .1 .1 .1 .1 .1 .1 .0 .1)
-      (are .1 .1 .1 .1 .1 .1 .1 .0 .1) C Λ fm known32 known64 (are .0) (are .1 .0) (are .1 .1 .0) (are .1 .1 .1 .0) (are .1 .1 .1 .1 .0)
-      (are .1 .1 .1 .1 .1 .0)))
+      (λ κs. (shr-slice-tells (named 0) (κs .0) u32, (shr-slice-tells (named 0) (κs .0) u32, (shr-slice-tells (named 0) (κs .0) u32, (shr-slice-tells (named 0) (κs .0) u32, (shr-slice-tells (named 0) (κs .0) u32, (shr-slice-tells (named 0) (κs .0) u64, (uint-tells w32, (uint-tells w32, tt)))))))))
+      (λ κs qs bounds a g are. via 𝓤 _ (fst∗ 𝓤 _ (emp 𝓤)) (walk 𝓤 H A W mem run (κs .0) (qs .0) (a .0) (a .1 .0) (a .1 .1 .0) (a .1 .1 .1 .0) (a .1 .1 .1 .1 .0) (a .1 .1 .1 .1 .1 .0) (a .1 .1 .1 .1 .1 .1 .0) (a .1 .1 .1 .1 .1 .1 .1 .0) (are .1 .1 .1 .1 .1 .1 .0 .1) (are .1 .1 .1 .1 .1 .1 .1 .0 .1) C Λ fm known32 known64 (are .0) (are .1 .0) (are .1 .1 .0) (are .1 .1 .1 .0) (are .1 .1 .1 .1 .0) (are .1 .1 .1 .1 .1 .0)))
 
 actions-from-meets : {M : Type 1} (𝓤 : URA M) (H : Heap 𝓤) (A : Atoms 𝓤) (W : Given 𝓤 H A) (mem : Memory → SProp 𝓤) (run : Routine
     → Fun 𝓤) (𝓣 : Tables 𝓤 H)
     → Triple 𝓤 (𝓣 .C #actions·core·part32) (Part32 𝓤 H A mem run) → Triple 𝓤 (𝓣 .C #actions·core·part64) (Part64 𝓤 H A mem run)
     → Meets 𝓤 H A f.signature (WpFn 𝓤 H (𝓣 .C) (𝓣 .Λ) code.function) (f.spec 𝓤 H A mem run)
 actions-from-meets 𝓤 H A W mem run 𝓣 known32 known64 =
-    walk-meets 𝓤 H A f.ended stayed W (
-      goes-none-slice 𝓤 H A W 1 (0 ∷ []) tt (plain (λ _. u32)) yes,
-      (
-        goes-none-slice 𝓤 H A W 1 (0 ∷ []) tt (plain (λ _. u32)) yes,
-        (
-          goes-none-slice 𝓤 H A W 1 (0 ∷ []) tt (plain (λ _. u32)) yes,
-          (
-            goes-none-slice 𝓤 H A W 1 (0 ∷ []) tt (plain (λ _. u32)) yes,
-            (
-              goes-none-slice 𝓤 H A W 1 (0 ∷ []) tt (plain (λ _. u32)) yes,
-              (
-                goes-none-slice 𝓤 H A W 1 (0 ∷ []) tt (plain (λ _. u64)) yes,
-                (goes-none 𝓤 H A W 1 (λ _. u32) yes (λ κs x f. refl), (goes-none 𝓤 H A W 1 (λ _. u32) yes (λ κs x f. refl), tt)),
-              ),
-            ),
-          ),
-        ),
-      ),
-    )
+    walk-meets 𝓤 H A f.ended stayed W
+    (goes-none-slice 𝓤 H A W 1 (0 ∷ []) tt (plain (λ _. u32)) yes, (goes-none-slice 𝓤 H A W 1 (0 ∷ []) tt (plain (λ _. u32)) yes, (goes-none-slice 𝓤 H A W 1 (0 ∷ []) tt (plain (λ _. u32)) yes, (goes-none-slice 𝓤 H A W 1 (0 ∷ []) tt (plain (λ _. u32)) yes, (goes-none-slice 𝓤 H A W 1 (0 ∷ []) tt (plain (λ _. u32)) yes, (goes-none-slice 𝓤 H A W 1 (0 ∷ []) tt (plain (λ _. u64)) yes, (goes-none 𝓤 H A W 1 (λ _. u32) yes (λ κs x f. refl), (goes-none 𝓤 H A W 1 (λ _. u32) yes (λ κs x f. refl), tt))))))))
     (f.clauses 𝓤 H A mem run) (WpFn 𝓤 H (𝓣 .C) (𝓣 .Λ) code.function) (WpFn-mono 𝓤 H (W .laws) 𝓣 code.function)
     (actions-from-walks 𝓤 H A W mem run (𝓣 .C) (𝓣 .Λ) (fmOf 𝓤 H (W .laws) 𝓣) known32 known64)
 

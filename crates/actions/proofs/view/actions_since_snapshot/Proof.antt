@@ -72,42 +72,8 @@ use Rattle.actions.proofs.view.actions_since_snapshot.Statement as stat
 use Rattle.actions.proofs.view.actions_since_snapshot.Code as code
 
 abbrev stayed : Stays (f.ended .signature .params) (f.ended .kept)
-stayed = (
-  stay-none (λ _. Z.the-row) yes,
-  (
-    stay-none-slice (0 ∷ []) tt (plain (λ _. u32)) yes,
-    (
-      stay-none-slice (0 ∷ []) tt (plain (λ _. u32)) yes,
-      (
-        stay-none-slice (0 ∷ []) tt (plain (λ _. u32)) yes,
-        (
-          stay-none-slice (0 ∷ []) tt (plain (λ _. u64)) yes,
-          (
-            stay-none-slice (0
-                ∷ []) tt (plain (λ _. u32)) yes,
-            (
-              stay-none-slice (0 ∷ []) tt (plain (λ _. u32)) yes,
-              (
-                stay-none-slice (0 ∷ []) tt (plain (λ _. u32)) yes,
-                (
-                  stay-none-slice (0 ∷ []) tt (plain (λ _. u32)) yes,
-                  (
-                    stay-none-slice (0 ∷ []) tt (plain (λ _. u32)) yes,
-                    (
-                      stay-none-slice (0
-                          ∷ []) tt (plain (λ _. u64)) yes,
-                      (stay-none (λ _. u64) yes, tt),
-                    ),
-                  ),
-                ),
-              ),
-            ),
-          ),
-        ),
-      ),
-    ),
-  ),
-)
+stayed =
+    (stay-none (λ _. Z.the-row) yes, (stay-none-slice (0 ∷ []) tt (plain (λ _. u32)) yes, (stay-none-slice (0 ∷ []) tt (plain (λ _. u32)) yes, (stay-none-slice (0 ∷ []) tt (plain (λ _. u32)) yes, (stay-none-slice (0 ∷ []) tt (plain (λ _. u64)) yes, (stay-none-slice (0 ∷ []) tt (plain (λ _. u32)) yes, (stay-none-slice (0 ∷ []) tt (plain (λ _. u32)) yes, (stay-none-slice (0 ∷ []) tt (plain (λ _. u32)) yes, (stay-none-slice (0 ∷ []) tt (plain (λ _. u32)) yes, (stay-none-slice (0 ∷ []) tt (plain (λ _. u32)) yes, (stay-none-slice (0 ∷ []) tt (plain (λ _. u64)) yes, (stay-none (λ _. u64) yes, tt))))))))))))
 
 module _ {M : Type 1} (𝓤 : URA M) (H : Heap 𝓤) (A : Atoms 𝓤) (mem : Memory → SProp 𝓤) (run : Routine → Fun 𝓤) where
   -- the contracts that the proof cites
@@ -134,36 +100,12 @@ module _ {M : Type 1} (𝓤 : URA M) (H : Heap 𝓤) (A : Atoms 𝓤) (W : Given
   args = (state, (parents, (ranks, (owners, (amounts, (logkinds, (logkeys, (logparents, (logranks, (logowners, (logamounts, (token, tt))))))))))))
 
   abbrev at : Vals f.signature κs
-  at = (
-    stateVal state ∷ [],
-    (
-      v parents ∷ [],
-      (
-        v ranks ∷ [],
-        (
-          v owners ∷ [],
-          (
-            v amounts ∷ [],
-            (
-              v logkinds ∷ [],
-              (
-                v logkeys ∷ [],
-                (
-                  v logparents ∷ [],
-                  (v logranks ∷ [], (v logowners ∷ [], (v logamounts ∷ [], (vint w64 token ∷ [], tt)))),
-                ),
-              ),
-            ),
-          ),
-        ),
-      ),
-    ),
-  )
+  at =
+      (stateVal state ∷ [], (v parents ∷ [], (v ranks ∷ [], (v owners ∷ [], (v amounts ∷ [], (v logkinds ∷ [], (v logkeys ∷ [], (v logparents ∷ [], (v logranks ∷ [], (v logowners ∷ [], (v logamounts ∷ [], (vint w64 token ∷ [], tt))))))))))))
 
   abbrev machs : List Val
   machs =
-      stateVal state ∷ v parents ∷ v ranks ∷ v owners ∷ v amounts ∷ v logkinds ∷ v logkeys ∷ v logparents ∷ v logranks ∷ v logowners ∷ v logamounts
-      ∷ vint w64 token ∷ []
+      stateVal state ∷ v parents ∷ v ranks ∷ v owners ∷ v amounts ∷ v logkinds ∷ v logkeys ∷ v logparents ∷ v logranks ∷ v logowners ∷ v logamounts ∷ vint w64 token ∷ []
 
   abbrev Kept : Fml
   Kept = owns Ts args at
@@ -239,28 +181,8 @@ module _ {M : Type 1} (𝓤 : URA M) (H : Heap 𝓤) (A : Atoms 𝓤) (W : Given
     cut-args = (logkinds, (logkeys, (logparents, (logranks, (logowners, (logamounts, (a .from, (a .to, tt))))))))
 
     abbrev cut-at : Vals cut.signature κs
-    cut-at = (
-      v logkinds ∷ [],
-      (
-        v logkeys ∷ [],
-        (
-          v logparents ∷ [],
-          (
-            v logranks ∷ [],
-            (
-              v logowners ∷ [],
-              (
-                v logamounts ∷ [],
-                (
-                  vint w32 (a .from) ∷ [],
-                  (vint w32 (a .to) ∷ [], tt),
-                ),
-              ),
-            ),
-          ),
-        ),
-      ),
-    )
+    cut-at =
+        (v logkinds ∷ [], (v logkeys ∷ [], (v logparents ∷ [], (v logranks ∷ [], (v logowners ∷ [], (v logamounts ∷ [], (vint w32 (a .from) ∷ [], (vint w32 (a .to) ∷ [], tt))))))))
 
     abbrev to-cut : Cut 𝓤 H A mem run .Ghost
     to-cut = ((κs, (q, tt), tt, cut-args, cut-at), tt)
@@ -296,8 +218,8 @@ module _ {M : Type 1} (𝓤 : URA M) (H : Heap 𝓤) (A : Atoms 𝓤) (W : Given
         move ! (2 ∷ 1 ∷ []) $ fjoin ! $ move ! (2 ∷ 0 ∷ []) $ fjoin ! $ move ! (2 ∷ 0 ∷ []) $ fjoin ! $ move ! (2 ∷ 0 ∷ []) $ fjoin ! $
         move ! (2 ∷ 0 ∷ []) $ fjoin ! $
         move ! (2 ∷ 1 ∷ []) $
-        use2 W (raw (Cut 𝓤 H A mem run .pre to-cut)) (qed W ((‵ (flft κ q) ⊛ ‵ ftrue)
-        ∷ ‵ (owns (Sl κ u32 ∷ Sl κ u32 ∷ Sl κ u32 ∷ Sl κ u32 ∷ Sl κ u32 ∷ Sl κ u64 ∷ u32 ∷ u32 ∷ []) cut-args cut-at) ∷ []) ∵ join ! $
+        use2 W (raw (Cut 𝓤 H A mem run .pre to-cut))
+        (qed W ((‵ (flft κ q) ⊛ ‵ ftrue) ∷ ‵ (owns (Sl κ u32 ∷ Sl κ u32 ∷ Sl κ u32 ∷ Sl κ u32 ∷ Sl κ u32 ∷ Sl κ u64 ∷ u32 ∷ u32 ∷ []) cut-args cut-at) ∷ []) ∵ join ! $
         frame ! $ done !) $ frame ! $ done !
 
     cut-said : (w : Actions)
@@ -316,21 +238,8 @@ module _ {M : Type 1} (𝓤 : URA M) (H : Heap 𝓤) (A : Atoms 𝓤) (W : Given
   exits : (a : Answer) (w : Actions) → outcome a (before state) ≡ step (before state) (AskActions token) → shown w ≡ actionsView (before state .log) a
       → ent 𝓤 (⋆ 𝓤 H A (‵ (B κs .own w (LL.vals (D κs) (L κs) w)) ∷ (‵ (flft κ q) ⊛ ‵ ftrue) ∷ ‵ Kept ∷ ‵ (N.the-row .own a (LL.vals N.the-type N′.the-laws a)) ∷ [])) (Post (LL.val (DS κs) (LS κs) (made a w)))
   exits a w e e′ =
-      qed W (‵ (B κs .own w (LL.vals (D κs) (L κs) w)) ∷ (‵ (flft κ q) ⊛ ‵ ftrue) ∷ ‵ Kept
-      ∷ ‵ (N.the-row .own a (LL.vals N.the-type N′.the-laws a)) ∷ []) ∵
-      suffices ! _ (ends-at 𝓤 H A f.ended stayed (f.clauses 𝓤 H A mem run) W (
-        (κs, (q, tt), tt, args, at),
-        tt,
-      ) (LL.val (DS κs) (LS κs) (made a w)) (made a w) (tt, (tt, (tt, (tt, (tt, (tt, (tt, (tt, (tt, (tt, (tt, (tt, tt)))))))))))) (
-        tt,
-        (
-          tt,
-          (
-            tt,
-            (tt, (tt, (tt, (tt, (tt, (tt, (tt, (tt, (tt, tt))))))))),
-          ),
-        ),
-      )) $
+      qed W (‵ (B κs .own w (LL.vals (D κs) (L κs) w)) ∷ (‵ (flft κ q) ⊛ ‵ ftrue) ∷ ‵ Kept ∷ ‵ (N.the-row .own a (LL.vals N.the-type N′.the-laws a)) ∷ []) ∵
+      suffices ! _ (ends-at 𝓤 H A f.ended stayed (f.clauses 𝓤 H A mem run) W ((κs, (q, tt), tt, args, at), tt) (LL.val (DS κs) (LS κs) (made a w)) (made a w) (tt, (tt, (tt, (tt, (tt, (tt, (tt, (tt, (tt, (tt, (tt, (tt, tt)))))))))))) (tt, (tt, (tt, (tt, (tt, (tt, (tt, (tt, (tt, (tt, (tt, (tt, tt))))))))))))) $
       says ! (record { answered = e; view = e′ }) $ move ! (1 ∷ []) $ frame ! $ move ! (1 ∷ []) $ frame ! $
       -- [what the view owns; what the answer owns]: together it is what the result owns
       nothing ! $ move ! (1 ∷ 0 ∷ []) $ fjoin ! $ move ! (1 ∷ 0 ∷ []) $ fjoin ! $ by ! (own-shut 𝓤 H A W (DS κs) (LS κs) (a, (w, tt)))
@@ -418,105 +327,17 @@ module _ {M : Type 1} (𝓤 : URA M) (H : Heap 𝓤) (A : Atoms 𝓤) (W : Given
       → Walks 𝓤 H A f.ended stayed (WpFn 𝓤 H C Λ code.function) (f.clauses 𝓤 H A mem run)
   actions-since-snapshot-walks C Λ fm known-ask known-cut =
       walked 𝓤 H A f.ended stayed (f.clauses 𝓤 H A mem run) (WpFn 𝓤 H C Λ code.function)
-      (λ κs. (
-        LL.vals Z.the-type Z′.the-laws,
-        (
-          slice-vals,
-          (
-            slice-vals,
-            (
-              slice-vals,
-              (
-                slice-vals,
-                (
-                  slice-vals,
-                  (
-                    slice-vals,
-                    (
-                      slice-vals,
-                      (
-                        slice-vals,
-                        (slice-vals, (slice-vals, (uint-vals w64, tt))),
-                      ),
-                    ),
-                  ),
-                ),
-              ),
-            ),
-          ),
-        ),
-      ))
-      (λ κs. (
-        LL.tells Z.the-type Z′.the-laws,
-        (
-          shr-slice-tells (named 0) (κs .0) u32,
-          (
-            shr-slice-tells (named 0) (κs .0) u32,
-            (
-              shr-slice-tells (named 0) (κs .0) u32,
-              (
-                shr-slice-tells (named 0) (κs .0) u64,
-                (
-                  shr-slice-tells (named 0) (κs .0) u32,
-                  (
-                    shr-slice-tells (named 0) (κs .0) u32,
-                    (
-                      shr-slice-tells (named 0) (κs .0) u32,
-                      (
-                        shr-slice-tells (named 0) (κs .0) u32,
-                        (shr-slice-tells (named 0) (κs .0) u32, (shr-slice-tells (named 0) (κs .0) u64, (uint-tells w64, tt))),
-                      ),
-                    ),
-                  ),
-                ),
-              ),
-            ),
-          ),
-        ),
-      ))
-      (λ κs qs bounds a g are. via 𝓤 _ (fst∗ 𝓤 _ (emp 𝓤)) (walk 𝓤 H A W mem run (κs .0) (qs .0) (a .0) (a .1 .0) (a .1 .1 .0) (a .1 .1 .1 .0)
-      (a .1 .1 .1 .1 .0) (a .1 .1 .1 .1 .1 .0) (a .1 .1 .1 .1 .1 .1 .0) (a .1 .1 .1 .1 .1 .1 .1 .0) (a .1 .1 .1 .1 .1 .1 .1 .1 .0)
-      (a .1 .1 .1 .1 .1 .1 .1 .1 .1 .0) (a .1 .1 .1 .1 .1 .1 .1 .1 .1 .1 .0) (a .1 .1 .1 .1 .1 .1 .1 .1 .1 .1 .1 .0)
-      (are .1 .1 .1 .1 .1 .1 .1 .1 .1 .1 .1 .0 .1) C Λ fm known-ask known-cut (are .0) (are .1 .0) (are .1 .1 .0) (are .1 .1 .1 .0)
-      (are .1 .1 .1 .1 .0) (are .1 .1 .1 .1 .1 .0) (are .1 .1 .1 .1 .1 .1 .0) (are .1 .1 .1 .1 .1 .1 .1 .0) (are .1 .1 .1 .1 .1 .1 .1 .1 .0)
-      (are .1 .1 .1 .1 .1 .1 .1 .1 .1 .0) (are .1 .1 .1 .1 .1 .1 .1 .1 .1 .1 .0)))
+      (λ κs. (LL.vals Z.the-type Z′.the-laws, (slice-vals, (slice-vals, (slice-vals, (slice-vals, (slice-vals, (slice-vals, (slice-vals, (slice-vals, (slice-vals, (slice-vals, (uint-vals w64, tt)))))))))))))
+      (λ κs. (LL.tells Z.the-type Z′.the-laws, (shr-slice-tells (named 0) (κs .0) u32, (shr-slice-tells (named 0) (κs .0) u32, (shr-slice-tells (named 0) (κs .0) u32, (shr-slice-tells (named 0) (κs .0) u64, (shr-slice-tells (named 0) (κs .0) u32, (shr-slice-tells (named 0) (κs .0) u32, (shr-slice-tells (named 0) (κs .0) u32, (shr-slice-tells (named 0) (κs .0) u32, (shr-slice-tells (named 0) (κs .0) u32, (shr-slice-tells (named 0) (κs .0) u64, (uint-tells w64, tt)))))))))))))
+      (λ κs qs bounds a g are. via 𝓤 _ (fst∗ 𝓤 _ (emp 𝓤)) (walk 𝓤 H A W mem run (κs .0) (qs .0) (a .0) (a .1 .0) (a .1 .1 .0) (a .1 .1 .1 .0) (a .1 .1 .1 .1 .0) (a .1 .1 .1 .1 .1 .0) (a .1 .1 .1 .1 .1 .1 .0) (a .1 .1 .1 .1 .1 .1 .1 .0) (a .1 .1 .1 .1 .1 .1 .1 .1 .0) (a .1 .1 .1 .1 .1 .1 .1 .1 .1 .0) (a .1 .1 .1 .1 .1 .1 .1 .1 .1 .1 .0) (a .1 .1 .1 .1 .1 .1 .1 .1 .1 .1 .1 .0) (are .1 .1 .1 .1 .1 .1 .1 .1 .1 .1 .1 .0 .1) C Λ fm known-ask known-cut (are .0) (are .1 .0) (are .1 .1 .0) (are .1 .1 .1 .0) (are .1 .1 .1 .1 .0) (are .1 .1 .1 .1 .1 .0) (are .1 .1 .1 .1 .1 .1 .0) (are .1 .1 .1 .1 .1 .1 .1 .0) (are .1 .1 .1 .1 .1 .1 .1 .1 .0) (are .1 .1 .1 .1 .1 .1 .1 .1 .1 .0) (are .1 .1 .1 .1 .1 .1 .1 .1 .1 .1 .0)))
 
 actions-since-snapshot-meets : {M : Type 1} (𝓤 : URA M) (H : Heap 𝓤) (A : Atoms 𝓤) (W : Given 𝓤 H A) (mem : Memory → SProp 𝓤) (run : Routine
     → Fun 𝓤) (𝓣 : Tables 𝓤 H)
     → Triple 𝓤 (𝓣 .C #actions·core·answer-since) (Ask 𝓤 H A mem run) → Triple 𝓤 (𝓣 .C #actions·view·actions-from) (Cut 𝓤 H A mem run)
     → Meets 𝓤 H A f.signature (WpFn 𝓤 H (𝓣 .C) (𝓣 .Λ) code.function) (f.spec 𝓤 H A mem run)
 actions-since-snapshot-meets 𝓤 H A W mem run 𝓣 known-ask known-cut =
-    walk-meets 𝓤 H A f.ended stayed W (
-      goes-none 𝓤 H A W 1 (λ _. Z.the-row) yes (λ κs x f. refl),
-      (
-        goes-none-slice 𝓤 H A W 1 (0 ∷ []) tt (plain (λ _. u32)) yes,
-        (
-          goes-none-slice 𝓤 H A W 1 (0 ∷ []) tt (plain (λ _. u32)) yes,
-          (
-            goes-none-slice 𝓤 H A W 1 (0 ∷ []) tt (plain (λ _. u32)) yes,
-            (
-              goes-none-slice 𝓤 H A W 1 (0 ∷ []) tt (plain (λ _. u64)) yes,
-              (
-                goes-none-slice 𝓤 H A W 1 (0 ∷ []) tt (plain (λ _. u32)) yes,
-                (
-                  goes-none-slice 𝓤 H A W 1 (0 ∷ []) tt (plain (λ _. u32)) yes,
-                  (
-                    goes-none-slice 𝓤 H A W 1 (0 ∷ []) tt (plain (λ _. u32)) yes,
-                    (
-                      goes-none-slice 𝓤 H A W 1 (0 ∷ []) tt (plain (λ _. u32)) yes,
-                      (
-                        goes-none-slice 𝓤 H A W 1 (0 ∷ []) tt (plain (λ _. u32)) yes,
-                        (goes-none-slice 𝓤 H A W 1 (0 ∷ []) tt (plain (λ _. u64)) yes, (goes-none 𝓤 H A W 1 (λ _. u64) yes (λ κs x f. refl), tt)),
-                      ),
-                    ),
-                  ),
-                ),
-              ),
-            ),
-          ),
-        ),
-      ),
-    )
+    walk-meets 𝓤 H A f.ended stayed W
+    (goes-none 𝓤 H A W 1 (λ _. Z.the-row) yes (λ κs x f. refl), (goes-none-slice 𝓤 H A W 1 (0 ∷ []) tt (plain (λ _. u32)) yes, (goes-none-slice 𝓤 H A W 1 (0 ∷ []) tt (plain (λ _. u32)) yes, (goes-none-slice 𝓤 H A W 1 (0 ∷ []) tt (plain (λ _. u32)) yes, (goes-none-slice 𝓤 H A W 1 (0 ∷ []) tt (plain (λ _. u64)) yes, (goes-none-slice 𝓤 H A W 1 (0 ∷ []) tt (plain (λ _. u32)) yes, (goes-none-slice 𝓤 H A W 1 (0 ∷ []) tt (plain (λ _. u32)) yes, (goes-none-slice 𝓤 H A W 1 (0 ∷ []) tt (plain (λ _. u32)) yes, (goes-none-slice 𝓤 H A W 1 (0 ∷ []) tt (plain (λ _. u32)) yes, (goes-none-slice 𝓤 H A W 1 (0 ∷ []) tt (plain (λ _. u32)) yes, (goes-none-slice 𝓤 H A W 1 (0 ∷ []) tt (plain (λ _. u64)) yes, (goes-none 𝓤 H A W 1 (λ _. u64) yes (λ κs x f. refl), tt))))))))))))
     (f.clauses 𝓤 H A mem run) (WpFn 𝓤 H (𝓣 .C) (𝓣 .Λ) code.function) (WpFn-mono 𝓤 H (W .laws) 𝓣 code.function)
     (actions-since-snapshot-walks 𝓤 H A W mem run (𝓣 .C) (𝓣 .Λ) (fmOf 𝓤 H (W .laws) 𝓣) known-ask known-cut)
 

@@ -97,36 +97,16 @@ module _ {M : Type 1} (𝓤 : URA M) (H : Heap 𝓤) (A : Atoms 𝓤) (W : Given
   args = (d .kinds, (d .keys, (d .parents, (d .ranks, (d .owners, (d .amounts, (i, tt)))))))
 
   abbrev passed : Vals g.signature κs
-  passed = (
-    v (d .kinds) ∷ [],
-    (
-      v (d .keys) ∷ [],
-      (
-        v (d .parents) ∷ [],
-        (
-          v (d .ranks) ∷ [],
-          (
-            v (d .owners) ∷ [],
-            (
-              v (d .amounts) ∷ [],
-              (
-                vint w64 i ∷ [],
-                tt,
-              ),
-            ),
-          ),
-        ),
-      ),
-    ),
-  )
+  passed =
+      (v (d .kinds) ∷ [], (v (d .keys) ∷ [], (v (d .parents) ∷ [], (v (d .ranks) ∷ [], (v (d .owners) ∷ [], (v (d .amounts) ∷ [], (vint w64 i ∷ [], tt)))))))
 
   abbrev to : EntryAt 𝓤 H A mem run .Ghost
   to = ((κs, (q, tt), tt, args, passed), tt)
 
   asked : ent 𝓤 (onEntry 𝓤 H A g.signature κs (q, tt) args passed) (EntryAt 𝓤 H A mem run .pre to)
   asked =
-      qed W ((‵ (flft κ q) ⊛ ‵ ftrue) ∷ ‵ (owns (Sl κ u32 ∷ Sl κ u32 ∷ Sl κ u32 ∷ Sl κ u32 ∷ Sl κ u32 ∷ Sl κ u64 ∷ usize ∷ []) args passed)
-      ∷ []) ∵ join ! $ frame ! $ done !
+      qed W ((‵ (flft κ q) ⊛ ‵ ftrue) ∷ ‵ (owns (Sl κ u32 ∷ Sl κ u32 ∷ Sl κ u32 ∷ Sl κ u32 ∷ Sl κ u32 ∷ Sl κ u64 ∷ usize ∷ []) args passed) ∷ []) ∵ join ! $
+      frame ! $ done !
 
   -- what the struct owns gives what the callee asks, and is kept
   apart : ent 𝓤 (onEntry 𝓤 H A f.signature κs (q, tt) (d, (i, tt)) at) (sep 𝓤 (EntryAt 𝓤 H A mem run .pre to) (sem 𝓤 H A Own))
@@ -149,13 +129,7 @@ module _ {M : Type 1} (𝓤 : URA M) (H : Heap 𝓤) (A : Atoms 𝓤) (W : Given
   exits : (r : UndoLog) (u : Val) → r ≡ found → ent 𝓤 (⋆ 𝓤 H A (‵ (S.the-row .own r (u ∷ [])) ∷ (‵ (flft κ q) ⊛ ‵ ftrue) ∷ ‵ Own ∷ [])) (Post u)
   exits r u e =
       qed W (‵ (S.the-row .own r (u ∷ [])) ∷ (‵ (flft κ q) ⊛ ‵ ftrue) ∷ ‵ Own ∷ []) ∵
-      suffices ! _ (ends-at 𝓤 H A f.ended stayed (f.clauses 𝓤 H A mem run) W ((κs, (q, tt), tt, (d, (i, tt)), at), tt) u r (tt, (tt, tt)) (
-        tt,
-        (
-          tt,
-          tt,
-        ),
-      )) $
+      suffices ! _ (ends-at 𝓤 H A f.ended stayed (f.clauses 𝓤 H A mem run) W ((κs, (q, tt), tt, (d, (i, tt)), at), tt) u r (tt, (tt, tt)) (tt, (tt, tt))) $
       says ! e $
       move ! (1 ∷ []) $ frame ! $ nothing ! $ owned ! usize (Is usize) (uint-makes 𝓤 H A W w64) i _ (refl, fits-i) $ fjoin ! $ move ! (2 ∷ 0 ∷ []) $
       fjoin ! $ frame ! $ done !
@@ -206,8 +180,7 @@ module _ {M : Type 1} (𝓤 : URA M) (H : Heap 𝓤) (A : Atoms 𝓤) (W : Given
       walked 𝓤 H A f.ended stayed (f.clauses 𝓤 H A mem run) (WpFn 𝓤 H C Λ code.function)
       (λ κs. (LL.vals (D κs) (L κs), (uint-vals w64, tt)))
       (λ κs. (LL.tells (D κs) (L κs), (uint-tells w64, tt)))
-      (λ κs qs bounds a g are. via 𝓤 _ (fst∗ 𝓤 _ (emp 𝓤)) (walk 𝓤 H A W mem run (κs .0) (qs .0) (a .0) (a .1 .0)
-      (are .1 .0 .1) C Λ fm known (LL.lawful (D κs) (L κs) 𝓤 H A W .typed (a .0) _ (are .0) .0)))
+      (λ κs qs bounds a g are. via 𝓤 _ (fst∗ 𝓤 _ (emp 𝓤)) (walk 𝓤 H A W mem run (κs .0) (qs .0) (a .0) (a .1 .0) (are .1 .0 .1) C Λ fm known (LL.lawful (D κs) (L κs) 𝓤 H A W .typed (a .0) _ (are .0) .0)))
 
 entry-meets : {M : Type 1} (𝓤 : URA M) (H : Heap 𝓤) (A : Atoms 𝓤) (W : Given 𝓤 H A) (mem : Memory → SProp 𝓤) (run : Routine → Fun 𝓤) (𝓣 : Tables 𝓤 H)
     → Triple 𝓤 (𝓣 .C #actions·core·entry-at) (EntryAt 𝓤 H A mem run)

@@ -57,10 +57,7 @@ module _ {M : Type 1} (𝓤 : URA M) (H : Heap 𝓤) (A : Atoms 𝓤) (W : Given
   exits : n < 2 ^ 64 → ent 𝓤 (onEntry 𝓤 H A f.signature (κ, tt) (q, tt) (d, tt) (mach ∷ [], tt)) (Post (vint w64 n))
   exits g =
       qed W ((‵ (flft κ q) ⊛ ‵ ftrue) ∷ ‵ (owns (B (κ, tt) ∷ []) (d, tt) (mach ∷ [], tt)) ∷ []) ∵
-      suffices ! _ (ends-at 𝓤 H A f.ended stayed (f.clauses 𝓤 H A mem run) W (
-        ((κ, tt), (q, tt), tt, (d, tt), (mach ∷ [], tt)),
-        tt,
-      ) (vint w64 n) n (tt, tt) (tt, tt)) $
+      suffices ! _ (ends-at 𝓤 H A f.ended stayed (f.clauses 𝓤 H A mem run) W (((κ, tt), (q, tt), tt, (d, tt), (mach ∷ [], tt)), tt) (vint w64 n) n (tt, tt) (tt, tt)) $
       says ! refl $
       frame ! $ frame ! $ owned ! usize (Is usize) (uint-makes 𝓤 H A W w64) n _ (refl, g) $ done !
 
