@@ -1,12 +1,11 @@
 -- The part of a list from a place to a place, at each of its ends. Assumes nothing.
 use mathlib.Core.Path.{_≡_, refl, sym, _∙_}
-use mathlib.Core.List.{List, [], _∷_}
+use mathlib.Core.List.{List, []}
 use Prim.Native.Nat.{ℕ, zero, suc, _-_, _<_, _≤_}
 use native.Mathlib.Omega.{arith}
 use lib.ListN.{length, take, drop, length-drop, drop-of-length-le}
 use lib.Seq.{take-all}
-use Rattle.rules.specs.declared.table.UndoLog.{UndoLog}
-use Rattle.rules.specs.Lent.{Rows, Log}
+use Rattle.rules.specs.Lent.{Log}
 use Rattle.rules.specs.Tokens.{part}
 
 none-of-none : (n : ℕ) → _≡_ {A = List ℕ} [] (take n [])

@@ -1,9 +1,8 @@
 -- `core::answer_of` meets its contract: BAD_STATE, or what the rule answers of the token. Assumes nothing.
-use mathlib.Core.Path.{_≡_, sym, _∙_}
-use mathlib.Core.Bool.{false}
+use mathlib.Core.Path.{sym, _∙_}
 use borrow.Author.Needs.{needs}
 use Rattle.rules.specs.Lent.{Table, table}
-use Rattle.rules.specs.Refusal.{sizesOf, bad}
+use Rattle.rules.specs.Refusal.{sizesOf}
 use Rattle.rules.specs.Contract.{rowsNow, logNow}
 use Rattle.rules.proofs.StateLaws.{bad-good}
 use Rattle.actions.proofs.AnswerLaws.{answer-bad, answer-done}

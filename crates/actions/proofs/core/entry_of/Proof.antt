@@ -1,5 +1,4 @@
 -- `core::entry_of` meets its contract, kind by kind. Assumes nothing.
-use mathlib.Core.Path.{sym, _∙_}
 use borrow.Author.Tests.{eq-eqb, ne-eqb}
 use borrow.Author.Needs.{needs}
 use Rattle.actions.proofs.core.entry_of.Statement.{statement}

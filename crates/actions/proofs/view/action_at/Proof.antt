@@ -166,8 +166,8 @@ module _ {M : Type 1} (𝓤 : URA M) (H : Heap 𝓤) (A : Atoms 𝓤) (W : Given
       (qed W ((‵ (flft κ q) ⊛ ‵ ftrue) ∷ ‵ (owns (Z.the-row ∷ Sl κ u32 ∷ Sl κ u32 ∷ Sl κ u32 ∷ Sl κ u64 ∷ Sl κ u32 ∷ Sl κ u32 ∷ Sl κ u32 ∷ Sl κ u32 ∷ Sl κ u32 ∷ Sl κ u64 ∷ u64 ∷ []) show-args show-at) ∷ []) ∵ join ! $
       frame ! $ done !) $ frame ! $ done !
 
-  show-said : (r : Shown)
-      → ent 𝓤 (ensured 𝓤 H A show.ended (show.clauses 𝓤 H A mem run) κs show-args tt r) (fact 𝓤 (Since (before state) (before state) token r))
+  show-said : (r : Shown) → ent 𝓤 (ensured 𝓤 H A show.ended (show.clauses 𝓤 H A mem run) κs show-args tt r)
+      (fact 𝓤 (Since (before state) (before state) token r))
   show-said r = exE 𝓤 _ (λ ws. snd∗ 𝓤 (sem 𝓤 H A (lasts show.ended κs show-args ws)) (fact 𝓤 (Since (before state) (before state) token r)))
 
   -- the call of `entry` on the view of r
@@ -175,8 +175,8 @@ module _ {M : Type 1} (𝓤 : URA M) (H : Heap 𝓤) (A : Atoms 𝓤) (W : Given
   to-next r = ((κs, (q, tt), tt, (r .view, (i, tt)), (LL.vals (D κs) (L κs) (r .view), (vint w64 i ∷ [], tt))), tt)
 
   -- what r owns is taken apart: the view's is what the call asks
-  goes-next : (r : Shown)
-      → ent 𝓤 (⋆ 𝓤 H A (‵ (BS κs .own r (LL.vals (DS κs) (LS κs) r)) ∷ (‵ (flft κ q) ⊛ ‵ ftrue) ∷ [])) (Next 𝓤 H A mem run .pre (to-next r))
+  goes-next : (r : Shown) → ent 𝓤 (⋆ 𝓤 H A (‵ (BS κs .own r (LL.vals (DS κs) (LS κs) r)) ∷ (‵ (flft κ q) ⊛ ‵ ftrue) ∷ []))
+      (Next 𝓤 H A mem run .pre (to-next r))
   goes-next r =
       qed W (‵ (BS κs .own r (LL.vals (DS κs) (LS κs) r)) ∷ (‵ (flft κ q) ⊛ ‵ ftrue) ∷ []) ∵
       use1 W (given (LL.vals (DS κs) (LS κs) r ≡ LL.vals (DS κs) (LS κs) r) (‵ (all-own (DS κs .parts) (LS κs) (r .answer, (r .view, tt)))))
@@ -187,8 +187,8 @@ module _ {M : Type 1} (𝓤 : URA M) (H : Heap 𝓤) (A : Atoms 𝓤) (W : Given
       nothing ! $ owned ! usize (Is usize) (uint-makes 𝓤 H A W w64) i _ (refl, fits-i) $ fjoin ! $ move ! (1 ∷ 0 ∷ []) $ fjoin ! $
       move ! (1 ∷ 0 ∷ []) $ join ! $ frame ! $ done !)
 
-  next-said : (r : Shown) (x : UndoLog)
-      → ent 𝓤 (ensured 𝓤 H A next.ended (next.clauses 𝓤 H A mem run) κs (r .view, (i, tt)) tt x) (fact 𝓤 (x ≡ entryAt (shown (r .view)) i))
+  next-said : (r : Shown) (x : UndoLog) → ent 𝓤 (ensured 𝓤 H A next.ended (next.clauses 𝓤 H A mem run) κs (r .view, (i, tt)) tt x)
+      (fact 𝓤 (x ≡ entryAt (shown (r .view)) i))
   next-said r x = exE 𝓤 _ (λ ws. snd∗ 𝓤 (sem 𝓤 H A (lasts next.ended κs (r .view, (i, tt)) ws)) (fact 𝓤 (x ≡ entryAt (shown (r .view)) i)))
 
   exits : (x : UndoLog) (u : Val) → x ≡ entryAt (seen (before state) token) i
@@ -280,8 +280,8 @@ module _ {M : Type 1} (𝓤 : URA M) (H : Heap 𝓤) (A : Atoms 𝓤) (W : Given
       (λ κs. (LL.tells Z.the-type Z′.the-laws, (shr-slice-tells (named 0) (κs .0) u32, (shr-slice-tells (named 0) (κs .0) u32, (shr-slice-tells (named 0) (κs .0) u32, (shr-slice-tells (named 0) (κs .0) u64, (shr-slice-tells (named 0) (κs .0) u32, (shr-slice-tells (named 0) (κs .0) u32, (shr-slice-tells (named 0) (κs .0) u32, (shr-slice-tells (named 0) (κs .0) u32, (shr-slice-tells (named 0) (κs .0) u32, (shr-slice-tells (named 0) (κs .0) u64, (uint-tells w64, (uint-tells w64, tt))))))))))))))
       (λ κs qs bounds a g are. via 𝓤 _ (fst∗ 𝓤 _ (emp 𝓤)) (walk 𝓤 H A W mem run (κs .0) (qs .0) (a .0) (a .1 .0) (a .1 .1 .0) (a .1 .1 .1 .0) (a .1 .1 .1 .1 .0) (a .1 .1 .1 .1 .1 .0) (a .1 .1 .1 .1 .1 .1 .0) (a .1 .1 .1 .1 .1 .1 .1 .0) (a .1 .1 .1 .1 .1 .1 .1 .1 .0) (a .1 .1 .1 .1 .1 .1 .1 .1 .1 .0) (a .1 .1 .1 .1 .1 .1 .1 .1 .1 .1 .0) (a .1 .1 .1 .1 .1 .1 .1 .1 .1 .1 .1 .0) (a .1 .1 .1 .1 .1 .1 .1 .1 .1 .1 .1 .1 .0) (are .1 .1 .1 .1 .1 .1 .1 .1 .1 .1 .1 .0 .1) (are .1 .1 .1 .1 .1 .1 .1 .1 .1 .1 .1 .1 .0 .1) C Λ fm known-show known-next (are .0) (are .1 .0) (are .1 .1 .0) (are .1 .1 .1 .0) (are .1 .1 .1 .1 .0) (are .1 .1 .1 .1 .1 .0) (are .1 .1 .1 .1 .1 .1 .0) (are .1 .1 .1 .1 .1 .1 .1 .0) (are .1 .1 .1 .1 .1 .1 .1 .1 .0) (are .1 .1 .1 .1 .1 .1 .1 .1 .1 .0) (are .1 .1 .1 .1 .1 .1 .1 .1 .1 .1 .0)))
 
-action-at-meets : {M : Type 1} (𝓤 : URA M) (H : Heap 𝓤) (A : Atoms 𝓤) (W : Given 𝓤 H A) (mem : Memory → SProp 𝓤) (run : Routine
-    → Fun 𝓤) (𝓣 : Tables 𝓤 H)
+action-at-meets : {M : Type 1} (𝓤 : URA M) (H : Heap 𝓤) (A : Atoms 𝓤) (W : Given 𝓤 H A) (mem : Memory → SProp 𝓤) (run : Routine → Fun 𝓤)
+    (𝓣 : Tables 𝓤 H)
     → Triple 𝓤 (𝓣 .C #actions·view·actions-since-snapshot) (Show 𝓤 H A mem run) → Triple 𝓤 (𝓣 .C #actions·view·entry) (Next 𝓤 H A mem run)
     → Meets 𝓤 H A f.signature (WpFn 𝓤 H (𝓣 .C) (𝓣 .Λ) code.function) (f.spec 𝓤 H A mem run)
 action-at-meets 𝓤 H A W mem run 𝓣 known-show known-next =

@@ -102,8 +102,8 @@ module _ {M : Type 1} (𝓤 : URA M) (H : Heap 𝓤) (A : Atoms 𝓤) (W : Given
   abbrev to32 : RefT (List ℕ) → Part32 𝓤 H A mem run .Ghost
   to32 s = ((κs, (q, tt), tt, (s, (from, (to, tt))), passed32 s), tt)
 
-  goes32 : (s : RefT (List ℕ))
-      → ent 𝓤 (⋆ 𝓤 H A (‵ (Own32 κ s) ∷ (‵ (flft κ q) ⊛ ‵ ftrue) ∷ [])) (sep 𝓤 (Part32 𝓤 H A mem run .pre (to32 s)) (sem 𝓤 H A (Own32 κ s)))
+  goes32 : (s : RefT (List ℕ)) → ent 𝓤 (⋆ 𝓤 H A (‵ (Own32 κ s) ∷ (‵ (flft κ q) ⊛ ‵ ftrue) ∷ []))
+      (sep 𝓤 (Part32 𝓤 H A mem run .pre (to32 s)) (sem 𝓤 H A (Own32 κ s)))
   goes32 s =
       qed W (‵ (Own32 κ s) ∷ (‵ (flft κ q) ⊛ ‵ ftrue) ∷ []) ∵ use1 W (‵ (Own32 κ s) ⊛ ‵ (Own32 κ s)) (shr-slice-copy 𝓤 H A W (named 0) κ u32 .twice s (v s ∷ [])) $
       split ! $
@@ -113,8 +113,8 @@ module _ {M : Type 1} (𝓤 : URA M) (H : Heap 𝓤) (A : Atoms 𝓤) (W : Given
       (qed W ((‵ (flft κ q) ⊛ ‵ ftrue) ∷ ‵ (owns (Sl κ u32 ∷ u32 ∷ u32 ∷ []) (s, (from, (to, tt))) (passed32 s)) ∷ []) ∵ join ! $
       frame ! $ done !) $ frame ! $ done !
 
-  said32 : (s r : RefT (List ℕ))
-      → ent 𝓤 (ensured 𝓤 H A p32.ended (p32.clauses 𝓤 H A mem run) κs (s, (from, (to, tt))) tt r) (fact 𝓤 (now r ≡ part from to (now s)))
+  said32 : (s r : RefT (List ℕ)) → ent 𝓤 (ensured 𝓤 H A p32.ended (p32.clauses 𝓤 H A mem run) κs (s, (from, (to, tt))) tt r)
+      (fact 𝓤 (now r ≡ part from to (now s)))
   said32 s r = exE 𝓤 _ (λ ws. snd∗ 𝓤 (sem 𝓤 H A (lasts p32.ended κs (s, (from, (to, tt))) ws)) (fact 𝓤 (now r ≡ part from to (now s))))
 
   -- the call of `part64` on s: what it is passed, what it asks, and what is known of its result
@@ -124,8 +124,8 @@ module _ {M : Type 1} (𝓤 : URA M) (H : Heap 𝓤) (A : Atoms 𝓤) (W : Given
   abbrev to64 : RefT (List ℕ) → Part64 𝓤 H A mem run .Ghost
   to64 s = ((κs, (q, tt), tt, (s, (from, (to, tt))), passed64 s), tt)
 
-  goes64 : (s : RefT (List ℕ))
-      → ent 𝓤 (⋆ 𝓤 H A (‵ (Own64 κ s) ∷ (‵ (flft κ q) ⊛ ‵ ftrue) ∷ [])) (sep 𝓤 (Part64 𝓤 H A mem run .pre (to64 s)) (sem 𝓤 H A (Own64 κ s)))
+  goes64 : (s : RefT (List ℕ)) → ent 𝓤 (⋆ 𝓤 H A (‵ (Own64 κ s) ∷ (‵ (flft κ q) ⊛ ‵ ftrue) ∷ []))
+      (sep 𝓤 (Part64 𝓤 H A mem run .pre (to64 s)) (sem 𝓤 H A (Own64 κ s)))
   goes64 s =
       qed W (‵ (Own64 κ s) ∷ (‵ (flft κ q) ⊛ ‵ ftrue) ∷ []) ∵ use1 W (‵ (Own64 κ s) ⊛ ‵ (Own64 κ s)) (shr-slice-copy 𝓤 H A W (named 0) κ u64 .twice s (v s ∷ [])) $
       split ! $
@@ -135,8 +135,8 @@ module _ {M : Type 1} (𝓤 : URA M) (H : Heap 𝓤) (A : Atoms 𝓤) (W : Given
       (qed W ((‵ (flft κ q) ⊛ ‵ ftrue) ∷ ‵ (owns (Sl κ u64 ∷ u32 ∷ u32 ∷ []) (s, (from, (to, tt))) (passed64 s)) ∷ []) ∵ join ! $
       frame ! $ done !) $ frame ! $ done !
 
-  said64 : (s r : RefT (List ℕ))
-      → ent 𝓤 (ensured 𝓤 H A p64.ended (p64.clauses 𝓤 H A mem run) κs (s, (from, (to, tt))) tt r) (fact 𝓤 (now r ≡ part from to (now s)))
+  said64 : (s r : RefT (List ℕ)) → ent 𝓤 (ensured 𝓤 H A p64.ended (p64.clauses 𝓤 H A mem run) κs (s, (from, (to, tt))) tt r)
+      (fact 𝓤 (now r ≡ part from to (now s)))
   said64 s r = exE 𝓤 _ (λ ws. snd∗ 𝓤 (sem 𝓤 H A (lasts p64.ended κs (s, (from, (to, tt))) ws)) (fact 𝓤 (now r ≡ part from to (now s))))
 
   exits : (r₁ r₂ r₃ r₄ r₅ r₆ : RefT (List ℕ)) → now r₁ ≡ part from to (now s₁) → now r₂ ≡ part from to (now s₂) → now r₃ ≡ part from to (now s₃)
@@ -157,8 +157,8 @@ module _ {M : Type 1} (𝓤 : URA M) (H : Heap 𝓤) (A : Atoms 𝓤) (W : Given
   module _ (C : Calls 𝓤 H) (Λ : Loops 𝓤 H) (fm : FmC 𝓤 H (W .laws) C) (known32 : Triple 𝓤 (C #actions·core·part32) (Part32 𝓤 H A mem run))
       (known64 : Triple 𝓤 (C #actions·core·part64) (Part64 𝓤 H A mem run)) where
     walk : Is (Sl κ u32) s₁ (v s₁ ∷ []) → Is (Sl κ u32) s₂ (v s₂ ∷ []) → Is (Sl κ u32) s₃ (v s₃ ∷ []) → Is (Sl κ u32) s₄ (v s₄ ∷ [])
-        → Is (Sl κ u32) s₅ (v s₅ ∷ []) → Is (Sl κ u64) s₆ (v s₆ ∷ [])
-        → ent 𝓤 (onEntry 𝓤 H A f.signature κs (q, tt) args at) (WpFn 𝓤 H C Λ code.function machs Post)
+        → Is (Sl κ u32) s₅ (v s₅ ∷ []) → Is (Sl κ u64) s₆ (v s₆ ∷ []) → ent 𝓤 (onEntry 𝓤 H A f.signature κs (q, tt) args at)
+        (WpFn 𝓤 H C Λ code.function machs Post)
     walk p₁ p₂ p₃ p₄ p₅ p₆ =
         qed W ((‵ (flft κ q) ⊛ ‵ ftrue) ∷ ‵ (owns Ts args at) ∷ []) ∵ enter ! C Λ code.function machs _ $
         alloc1 ! (λ l0. alloc1 ! (λ l1. alloc1 ! (λ l2. alloc1 ! (λ l3. alloc1 ! (λ l4. alloc1 ! (λ l5. alloc1 ! (λ l6. alloc1 ! (λ l7. alloc1 !
@@ -283,8 +283,8 @@ module _ {M : Type 1} (𝓤 : URA M) (H : Heap 𝓤) (A : Atoms 𝓤) (W : Given
       (λ κs. (shr-slice-tells (named 0) (κs .0) u32, (shr-slice-tells (named 0) (κs .0) u32, (shr-slice-tells (named 0) (κs .0) u32, (shr-slice-tells (named 0) (κs .0) u32, (shr-slice-tells (named 0) (κs .0) u32, (shr-slice-tells (named 0) (κs .0) u64, (uint-tells w32, (uint-tells w32, tt)))))))))
       (λ κs qs bounds a g are. via 𝓤 _ (fst∗ 𝓤 _ (emp 𝓤)) (walk 𝓤 H A W mem run (κs .0) (qs .0) (a .0) (a .1 .0) (a .1 .1 .0) (a .1 .1 .1 .0) (a .1 .1 .1 .1 .0) (a .1 .1 .1 .1 .1 .0) (a .1 .1 .1 .1 .1 .1 .0) (a .1 .1 .1 .1 .1 .1 .1 .0) (are .1 .1 .1 .1 .1 .1 .0 .1) (are .1 .1 .1 .1 .1 .1 .1 .0 .1) C Λ fm known32 known64 (are .0) (are .1 .0) (are .1 .1 .0) (are .1 .1 .1 .0) (are .1 .1 .1 .1 .0) (are .1 .1 .1 .1 .1 .0)))
 
-actions-from-meets : {M : Type 1} (𝓤 : URA M) (H : Heap 𝓤) (A : Atoms 𝓤) (W : Given 𝓤 H A) (mem : Memory → SProp 𝓤) (run : Routine
-    → Fun 𝓤) (𝓣 : Tables 𝓤 H)
+actions-from-meets : {M : Type 1} (𝓤 : URA M) (H : Heap 𝓤) (A : Atoms 𝓤) (W : Given 𝓤 H A) (mem : Memory → SProp 𝓤) (run : Routine → Fun 𝓤)
+    (𝓣 : Tables 𝓤 H)
     → Triple 𝓤 (𝓣 .C #actions·core·part32) (Part32 𝓤 H A mem run) → Triple 𝓤 (𝓣 .C #actions·core·part64) (Part64 𝓤 H A mem run)
     → Meets 𝓤 H A f.signature (WpFn 𝓤 H (𝓣 .C) (𝓣 .Λ) code.function) (f.spec 𝓤 H A mem run)
 actions-from-meets 𝓤 H A W mem run 𝓣 known32 known64 =

@@ -117,7 +117,7 @@ module _ {M : Type 1} (𝓤 : URA M) (H : Heap 𝓤) (A : Atoms 𝓤) (W : Given
   abbrev Post : Val → SProp 𝓤
   Post = walkOf 𝓤 H A f.ended stayed (f.clauses 𝓤 H A mem run) .post ((κs, (q, tt), tt, args, at), tt)
 
-  -- the call of `answer_of`, which is passed what the function is: what the parameters own is had twice
+  -- the call of `answer_since`, which is passed what the function is: what the parameters own is had twice
   abbrev to-ask : Ask 𝓤 H A mem run .Ghost
   to-ask = ((κs, (q, tt), tt, args, at), tt)
 
@@ -160,8 +160,8 @@ module _ {M : Type 1} (𝓤 : URA M) (H : Heap 𝓤) (A : Atoms 𝓤) (W : Given
       move ! (2 ∷ 0 ∷ []) $ use2 W (raw (Ask 𝓤 H A mem run .pre to-ask)) (qed W ((‵ (flft κ q) ⊛ ‵ ftrue) ∷ ‵ Kept ∷ []) ∵ join ! $ frame ! $
       done !) $ frame ! $ done !
 
-  ask-said : (a : Answer)
-      → ent 𝓤 (ensured 𝓤 H A ask.ended (ask.clauses 𝓤 H A mem run) κs args tt a) (fact 𝓤 (outcome a (before state) ≡ step (before state) (AskActions token)))
+  ask-said : (a : Answer) → ent 𝓤 (ensured 𝓤 H A ask.ended (ask.clauses 𝓤 H A mem run) κs args tt a)
+      (fact 𝓤 (outcome a (before state) ≡ step (before state) (AskActions token)))
   ask-said a =
       exE 𝓤 _ (λ ws. snd∗ 𝓤 (sem 𝓤 H A (lasts ask.ended κs args ws)) (fact 𝓤 (outcome a (before state) ≡ step (before state) (AskActions token))))
 
@@ -222,15 +222,15 @@ module _ {M : Type 1} (𝓤 : URA M) (H : Heap 𝓤) (A : Atoms 𝓤) (W : Given
         (qed W ((‵ (flft κ q) ⊛ ‵ ftrue) ∷ ‵ (owns (Sl κ u32 ∷ Sl κ u32 ∷ Sl κ u32 ∷ Sl κ u32 ∷ Sl κ u32 ∷ Sl κ u64 ∷ u32 ∷ u32 ∷ []) cut-args cut-at) ∷ []) ∵ join ! $
         frame ! $ done !) $ frame ! $ done !
 
-    cut-said : (w : Actions)
-        → ent 𝓤 (ensured 𝓤 H A cut.ended (cut.clauses 𝓤 H A mem run) κs cut-args tt w) (fact 𝓤 (shown w ≡ actionsView (before state .log) a))
+    cut-said : (w : Actions) → ent 𝓤 (ensured 𝓤 H A cut.ended (cut.clauses 𝓤 H A mem run) κs cut-args tt w)
+        (fact 𝓤 (shown w ≡ actionsView (before state .log) a))
     cut-said w = exE 𝓤 _ (λ ws. snd∗ 𝓤 (sem 𝓤 H A (lasts cut.ended κs cut-args ws)) (fact 𝓤 (shown w ≡ actionsView (before state .log) a)))
 
   abbrev made : Answer → Actions → Shown
   made a w = record { answer = a; view = w }
 
-  made-is : (a : Answer) (w : Actions) (u u′ : Val) → Is N.the-row a (u ∷ []) → Is (B κs) w (u′ ∷ [])
-      → Is (BS κs) (made a w) (LL.vals (DS κs) (LS κs) (made a w))
+  made-is : (a : Answer) (w : Actions) (u u′ : Val) → Is N.the-row a (u ∷ []) → Is (B κs) w (u′ ∷ []) → Is (BS κs) (made a w)
+      (LL.vals (DS κs) (LS κs) (made a w))
   made-is a w u u′ is is′ =
       LL.owes (DS κs) (LS κs) (made a w)
       (LL.owes N.the-type N′.the-laws a (LL.owed N.the-type N′.the-laws a _ is), (LL.owes (D κs) (L κs) w (LL.owed (D κs) (L κs) w _ is′), tt))
@@ -323,16 +323,16 @@ module _ {M : Type 1} (𝓤 : URA M) (H : Heap 𝓤) (A : Atoms 𝓤) (W : Given
 
 module _ {M : Type 1} (𝓤 : URA M) (H : Heap 𝓤) (A : Atoms 𝓤) (W : Given 𝓤 H A) (mem : Memory → SProp 𝓤) (run : Routine → Fun 𝓤) where
   actions-since-snapshot-walks : (C : Calls 𝓤 H) (Λ : Loops 𝓤 H) → FmC 𝓤 H (W .laws) C → Triple 𝓤 (C #actions·core·answer-since) (Ask 𝓤 H A mem run)
-      → Triple 𝓤 (C #actions·view·actions-from) (Cut 𝓤 H A mem run)
-      → Walks 𝓤 H A f.ended stayed (WpFn 𝓤 H C Λ code.function) (f.clauses 𝓤 H A mem run)
+      → Triple 𝓤 (C #actions·view·actions-from) (Cut 𝓤 H A mem run) → Walks 𝓤 H A f.ended stayed (WpFn 𝓤 H C Λ code.function)
+      (f.clauses 𝓤 H A mem run)
   actions-since-snapshot-walks C Λ fm known-ask known-cut =
       walked 𝓤 H A f.ended stayed (f.clauses 𝓤 H A mem run) (WpFn 𝓤 H C Λ code.function)
       (λ κs. (LL.vals Z.the-type Z′.the-laws, (slice-vals, (slice-vals, (slice-vals, (slice-vals, (slice-vals, (slice-vals, (slice-vals, (slice-vals, (slice-vals, (slice-vals, (uint-vals w64, tt)))))))))))))
       (λ κs. (LL.tells Z.the-type Z′.the-laws, (shr-slice-tells (named 0) (κs .0) u32, (shr-slice-tells (named 0) (κs .0) u32, (shr-slice-tells (named 0) (κs .0) u32, (shr-slice-tells (named 0) (κs .0) u64, (shr-slice-tells (named 0) (κs .0) u32, (shr-slice-tells (named 0) (κs .0) u32, (shr-slice-tells (named 0) (κs .0) u32, (shr-slice-tells (named 0) (κs .0) u32, (shr-slice-tells (named 0) (κs .0) u32, (shr-slice-tells (named 0) (κs .0) u64, (uint-tells w64, tt)))))))))))))
       (λ κs qs bounds a g are. via 𝓤 _ (fst∗ 𝓤 _ (emp 𝓤)) (walk 𝓤 H A W mem run (κs .0) (qs .0) (a .0) (a .1 .0) (a .1 .1 .0) (a .1 .1 .1 .0) (a .1 .1 .1 .1 .0) (a .1 .1 .1 .1 .1 .0) (a .1 .1 .1 .1 .1 .1 .0) (a .1 .1 .1 .1 .1 .1 .1 .0) (a .1 .1 .1 .1 .1 .1 .1 .1 .0) (a .1 .1 .1 .1 .1 .1 .1 .1 .1 .0) (a .1 .1 .1 .1 .1 .1 .1 .1 .1 .1 .0) (a .1 .1 .1 .1 .1 .1 .1 .1 .1 .1 .1 .0) (are .1 .1 .1 .1 .1 .1 .1 .1 .1 .1 .1 .0 .1) C Λ fm known-ask known-cut (are .0) (are .1 .0) (are .1 .1 .0) (are .1 .1 .1 .0) (are .1 .1 .1 .1 .0) (are .1 .1 .1 .1 .1 .0) (are .1 .1 .1 .1 .1 .1 .0) (are .1 .1 .1 .1 .1 .1 .1 .0) (are .1 .1 .1 .1 .1 .1 .1 .1 .0) (are .1 .1 .1 .1 .1 .1 .1 .1 .1 .0) (are .1 .1 .1 .1 .1 .1 .1 .1 .1 .1 .0)))
 
-actions-since-snapshot-meets : {M : Type 1} (𝓤 : URA M) (H : Heap 𝓤) (A : Atoms 𝓤) (W : Given 𝓤 H A) (mem : Memory → SProp 𝓤) (run : Routine
-    → Fun 𝓤) (𝓣 : Tables 𝓤 H)
+actions-since-snapshot-meets : {M : Type 1} (𝓤 : URA M) (H : Heap 𝓤) (A : Atoms 𝓤) (W : Given 𝓤 H A) (mem : Memory → SProp 𝓤) (run : Routine → Fun 𝓤)
+    (𝓣 : Tables 𝓤 H)
     → Triple 𝓤 (𝓣 .C #actions·core·answer-since) (Ask 𝓤 H A mem run) → Triple 𝓤 (𝓣 .C #actions·view·actions-from) (Cut 𝓤 H A mem run)
     → Meets 𝓤 H A f.signature (WpFn 𝓤 H (𝓣 .C) (𝓣 .Λ) code.function) (f.spec 𝓤 H A mem run)
 actions-since-snapshot-meets 𝓤 H A W mem run 𝓣 known-ask known-cut =
