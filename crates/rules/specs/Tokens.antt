@@ -144,3 +144,8 @@ viewed l a e =
         amounts = part a e (l .old .amounts);
       };
     }
+
+-- The view that a call hands out: the range that it answers. A refusal answers "the range 0 to 0 or an empty view", and that range
+-- cuts nothing.
+abbrev pub actionsView : Log → Answer → Log
+actionsView l a = viewed l (a .from) (a .to)

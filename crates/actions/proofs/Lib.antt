@@ -1,0 +1,5 @@
+-- What the proofs of several functions use, and what a view shows.
+pub mod PartLaws
+pub mod AnswerLaws
+pub mod Shapes
+pub mod ViewLaws
