@@ -55,11 +55,12 @@ log-row-requires : tie.Need-log-row-requires Inv-loop μ-loop
 log-row-requires c κs =
     let e = c .before .before .before .before .before .before .before .before .before .before .before .before .before .before .before .before .before .before .before .before .before in
     let a = e .args in
-    let pos : 0 < a .trail .steps = omega (arith, c .before .before .before .before .before .before .before .before .if2 .left) in
-    (node-in (rows e) (log e) (a .opened) (a .used) (a .count) (a .trail) (e .pre .0) (c .before .before .before .before .before .before .before .before .before .before .if1 .left) (e .pre .1) (a .trail .steps - 1) refl pos _ (c .before .before .before .before .before .before .before .loop .left)
-    (c .before .before .before .before .before .before .before .loop .more) (c .before .before .before .before .before .before .before .loop .inv) (c .before .before .before .before .before .before .loop-test .taken),
-    λ n. entry-in (rows e) (log e) (a .opened) (a .used) (a .count) (a .trail) (e .pre .0) (c .before .before .before .before .before .before .before .before .before .before .if1 .left) (e .pre .1) (a .trail .steps - 1) refl pos _ (c .before .before .before .before .before .before .before .loop .left)
-    (c .before .before .before .before .before .before .before .loop .more) (c .before .before .before .before .before .before .before .loop .inv) (c .before .before .before .before .before .before .loop-test .taken))
+    let pos : 0 < a .trail .steps = omega (arith, c .before .before .before .before .before .before .before .before .if2 .left) in (
+      node-in (rows e) (log e) (a .opened) (a .used) (a .count) (a .trail) (e .pre .0) (c .before .before .before .before .before .before .before .before .before .before .if1 .left) (e .pre .1) (a .trail .steps - 1) refl pos _ (c .before .before .before .before .before .before .before .loop .left)
+          (c .before .before .before .before .before .before .before .loop .more) (c .before .before .before .before .before .before .before .loop .inv) (c .before .before .before .before .before .before .loop-test .taken),
+      λ n. entry-in (rows e) (log e) (a .opened) (a .used) (a .count) (a .trail) (e .pre .0) (c .before .before .before .before .before .before .before .before .before .before .if1 .left) (e .pre .1) (a .trail .steps - 1) refl pos _ (c .before .before .before .before .before .before .before .loop .left)
+          (c .before .before .before .before .before .before .before .loop .more) (c .before .before .before .before .before .before .before .loop .inv) (c .before .before .before .before .before .before .loop-test .taken),
+    )
 
 loop-again : tie.Need-loop-again Inv-loop μ-loop
 loop-again c =
