@@ -21,7 +21,7 @@ use Rattle.plans.specs.Walks.{Even, Sound}
 use Rattle.plans.specs.Plans.{finishOf, walkOf, todoOf, Doable}
 use Rattle.plans.proofs.PlanLaws.{even-row}
 use Rattle.plans.proofs.WalksLaws.{trail-length}
-use Rattle.carry.specs.Ready.{LevelLog, Ready}
+use Rattle.carry.specs.Ready.{LevelLog, Ready, Counted}
 
 module _ {count n : ℕ} {m : Memory} (R : Ready count n m) where
   pub ready-row : {i : ℕ} → i < count → InRows i (m .rows)
@@ -134,3 +134,7 @@ todo-length rs count p D =
       walk-length (rs .parents) count (p .first) (D .first),
       walk-length _ count (p .second) (D .second),
     )
+
+pub doable-counted : (rs : Rows) (count : ℕ) (p : Todo) → Doable rs count p → Counted p
+doable-counted rs count p D =
+    record { first = D .first .short .steps; second = D .second .short .steps; is = todo-length rs count p D }

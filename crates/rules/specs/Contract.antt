@@ -22,9 +22,12 @@ rowsNow p r o a = record { parents = now p; ranks = now r; owners = now o; amoun
 abbrev pub logNow : Slice → Slice → Slice → Slice → Slice → Slice → Log
 logNow k i p r o a = record { kinds = now k; keys = now i; old = rowsNow p r o a }
 
--- The memory in a `requires`, over the open snapshots and the used log.
+-- The memory in a `requires`, over the open snapshots and the used log; and the table, over the state.
 abbrev pub memoryNow : Slice → Slice → Slice → Slice → Slice → Slice → Slice → Slice → Slice → Slice → ℕ → ℕ → Memory
 memoryNow p r o a k i op or oo oa = memory (rowsNow p r o a) (logNow k i op or oo oa)
+
+abbrev pub tableNow : Slice → Slice → Slice → Slice → Slice → Slice → Slice → Slice → Slice → Slice → State → Table
+tableNow p r o a k i op or oo oa = table (rowsNow p r o a) (logNow k i op or oo oa)
 
 -- In an `ensures`: the rows, the log, the memory and the table at both ends.
 abbrev pub rowsLent : Lent → Lent → Lent → Lent → Both Rows Rows

@@ -1,0 +1,3 @@
+-- What the proofs of several functions use, and that a contract leaves no choice.
+pub mod CallLaws
+pub mod Unique
