@@ -1,0 +1,319 @@
+ghost use Prim.Native.Nat.{_≤_};
+ghost use lib.ListN.{length};
+use crate::buffer::room;
+use crate::lent::in_use;
+use crate::lent::longest_log;
+use crate::lent::longest_rows;
+use crate::reply::Reply;
+use crate::show::entries;
+use crate::show::marks;
+use crate::show::row_cells;
+use crate::show::rows;
+use rules::call::Answer;
+use rules::table::State;
+use text::command::Lengths;
+use text::print::put_answer;
+use text::print::put_byte;
+use text::print::put_bytes;
+use text::print::put_error;
+use text::print::put_state;
+
+// Prints a reply, with a line feed. Answers the place after it.
+pub fn say(
+    out: &mut [u8],
+    at: usize,
+    lengths: Lengths,
+    state: State,
+    parents: &[u32],
+    ranks: &[u32],
+    owners: &[u32],
+    amounts: &[u64],
+    logkinds: &[u32],
+    logkeys: &[u32],
+    logparents: &[u32],
+    logranks: &[u32],
+    logowners: &[u32],
+    logamounts: &[u64],
+    reply: Reply,
+    line: u64,
+) -> usize
+    requires { ⌜ 256 ≤ length (now out) ⌝ }
+{
+    match reply {
+        Reply::Silent => at,
+        Reply::Error => error(out, at, line),
+        Reply::Ok => ok(out, at),
+        Reply::Table => table(out, at),
+        Reply::Answer(answer) => answered(out, at, answer),
+        Reply::Actions(answer) => actions(
+            out,
+            at,
+            lengths,
+            logkinds,
+            logkeys,
+            logparents,
+            logranks,
+            logowners,
+            logamounts,
+            answer,
+        ),
+        Reply::Row(key) => row(out, at, lengths, parents, ranks, owners, amounts, key),
+        Reply::Live => live(
+            out,
+            at,
+            lengths,
+            state,
+            parents,
+            ranks,
+            owners,
+            amounts,
+            logkinds,
+            logkeys,
+            logparents,
+            logranks,
+            logowners,
+            logamounts,
+        ),
+        Reply::Dump => dump(
+            out,
+            at,
+            lengths,
+            state,
+            parents,
+            ranks,
+            owners,
+            amounts,
+            logkinds,
+            logkeys,
+            logparents,
+            logranks,
+            logowners,
+            logamounts,
+        ),
+    }
+}
+
+// The line feed.
+fn feed(out: &mut [u8], at: usize) -> usize
+    requires { ⌜ 256 ≤ length (now out) ⌝ }
+{
+    let start = room(out, at);
+    put_byte(out, start, b'\n')
+}
+
+fn error(out: &mut [u8], at: usize, line: u64) -> usize
+    requires { ⌜ 256 ≤ length (now out) ⌝ }
+{
+    let start = room(out, at);
+    put_error(out, start, line)
+}
+
+fn ok(out: &mut [u8], at: usize) -> usize
+    requires { ⌜ 256 ≤ length (now out) ⌝ }
+{
+    let start = room(out, at);
+    put_bytes(out, start, b"ok\n")
+}
+
+fn table(out: &mut [u8], at: usize) -> usize
+    requires { ⌜ 256 ≤ length (now out) ⌝ }
+{
+    let start = room(out, at);
+    put_bytes(out, start, b"table\n")
+}
+
+fn answered(out: &mut [u8], at: usize, answer: Answer) -> usize
+    requires { ⌜ 256 ≤ length (now out) ⌝ }
+{
+    let start = room(out, at);
+    let end = put_answer(out, start, answer);
+    feed(out, end)
+}
+
+// An answer, and the entries that it is about: those from `from` to `to`, which is none where it is refused.
+fn actions(
+    out: &mut [u8],
+    at: usize,
+    lengths: Lengths,
+    logkinds: &[u32],
+    logkeys: &[u32],
+    logparents: &[u32],
+    logranks: &[u32],
+    logowners: &[u32],
+    logamounts: &[u64],
+    answer: Answer,
+) -> usize
+    requires { ⌜ 256 ≤ length (now out) ⌝ }
+{
+    let start = room(out, at);
+    let middle = put_answer(out, start, answer);
+    let end = entries(
+        out,
+        middle,
+        lengths,
+        logkinds,
+        logkeys,
+        logparents,
+        logranks,
+        logowners,
+        logamounts,
+        answer.from,
+        answer.to,
+    );
+    feed(out, end)
+}
+
+fn row(
+    out: &mut [u8],
+    at: usize,
+    lengths: Lengths,
+    parents: &[u32],
+    ranks: &[u32],
+    owners: &[u32],
+    amounts: &[u64],
+    key: u32,
+) -> usize
+    requires { ⌜ 256 ≤ length (now out) ⌝ }
+{
+    let start = room(out, at);
+    if key >= longest_rows(lengths) {
+        return put_bytes(out, start, b"none\n");
+    }
+    let middle = put_bytes(out, start, b"row");
+    let end = row_cells(out, middle, lengths, parents, ranks, owners, amounts, key);
+    feed(out, end)
+}
+
+// What is in use.
+fn live(
+    out: &mut [u8],
+    at: usize,
+    lengths: Lengths,
+    state: State,
+    parents: &[u32],
+    ranks: &[u32],
+    owners: &[u32],
+    amounts: &[u64],
+    logkinds: &[u32],
+    logkeys: &[u32],
+    logparents: &[u32],
+    logranks: &[u32],
+    logowners: &[u32],
+    logamounts: &[u64],
+) -> usize
+    requires { ⌜ 256 ≤ length (now out) ⌝ }
+{
+    let start = room(out, at);
+    let first = put_bytes(out, start, b"live rows");
+    let count = in_use(state.count, longest_rows(lengths));
+    let used = in_use(state.used, longest_log(lengths));
+    let end = memory(
+        out,
+        first,
+        lengths,
+        parents,
+        ranks,
+        owners,
+        amounts,
+        logkinds,
+        logkeys,
+        logparents,
+        logranks,
+        logowners,
+        logamounts,
+        count,
+        used,
+    );
+    stated(out, end, state, state.open)
+}
+
+// All that is lent, and all marks.
+fn dump(
+    out: &mut [u8],
+    at: usize,
+    lengths: Lengths,
+    state: State,
+    parents: &[u32],
+    ranks: &[u32],
+    owners: &[u32],
+    amounts: &[u64],
+    logkinds: &[u32],
+    logkeys: &[u32],
+    logparents: &[u32],
+    logranks: &[u32],
+    logowners: &[u32],
+    logamounts: &[u64],
+) -> usize
+    requires { ⌜ 256 ≤ length (now out) ⌝ }
+{
+    let start = room(out, at);
+    let first = put_bytes(out, start, b"dump rows");
+    let count = longest_rows(lengths);
+    let used = longest_log(lengths);
+    let end = memory(
+        out,
+        first,
+        lengths,
+        parents,
+        ranks,
+        owners,
+        amounts,
+        logkinds,
+        logkeys,
+        logparents,
+        logranks,
+        logowners,
+        logamounts,
+        count,
+        used,
+    );
+    stated(out, end, state, 32)
+}
+
+// Rows and entries.
+fn memory(
+    out: &mut [u8],
+    at: usize,
+    lengths: Lengths,
+    parents: &[u32],
+    ranks: &[u32],
+    owners: &[u32],
+    amounts: &[u64],
+    logkinds: &[u32],
+    logkeys: &[u32],
+    logparents: &[u32],
+    logranks: &[u32],
+    logowners: &[u32],
+    logamounts: &[u64],
+    count: u32,
+    used: u32,
+) -> usize
+    requires { ⌜ 256 ≤ length (now out) ⌝ }
+{
+    let first = rows(out, at, lengths, parents, ranks, owners, amounts, count);
+    let start = room(out, first);
+    let second = put_bytes(out, start, b" log");
+    entries(
+        out,
+        second,
+        lengths,
+        logkinds,
+        logkeys,
+        logparents,
+        logranks,
+        logowners,
+        logamounts,
+        0,
+        used,
+    )
+}
+
+// The state and so many marks.
+fn stated(out: &mut [u8], at: usize, state: State, n: u32) -> usize
+    requires { ⌜ 256 ≤ length (now out) ⌝ }
+{
+    let start = room(out, at);
+    let first = put_state(out, start, state);
+    let end = marks(out, first, state, n);
+    feed(out, end)
+}

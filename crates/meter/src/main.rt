@@ -1,0 +1,134 @@
+// Reads a list of calls from standard input and prints their answers. What is decided is decided in the library `lines`.
+ghost use Prim.Native.Nat.{_≤_};
+ghost use lib.ListN.{length};
+use lines::read::Reading;
+use lines::read::begin;
+use lines::read::finish;
+use lines::read::turn;
+
+// A proved loop has to end, and nothing says that the input does: so turns are counted down, from a number that no run
+// uses up.
+fn read_all(
+    parents: &mut [u32],
+    ranks: &mut [u32],
+    owners: &mut [u32],
+    amounts: &mut [u64],
+    logkinds: &mut [u32],
+    logkeys: &mut [u32],
+    logparents: &mut [u32],
+    logranks: &mut [u32],
+    logowners: &mut [u32],
+    logamounts: &mut [u64],
+    input: &mut [u8],
+    line: &mut [u8],
+    out: &mut [u8],
+) -> Reading
+    requires { ⌜ 256 ≤ length (now out) ⌝ }
+{
+    let mut reading = begin();
+    let mut turns = u64::MAX;
+    while turns > 0 {
+        if !reading.more {
+            return reading;
+        }
+        reading = turn(
+            reading,
+            parents,
+            ranks,
+            owners,
+            amounts,
+            logkinds,
+            logkeys,
+            logparents,
+            logranks,
+            logowners,
+            logamounts,
+            input,
+            line,
+            out,
+        );
+        turns -= 1;
+    }
+    reading
+}
+
+fn work(
+    parents: &mut [u32],
+    ranks: &mut [u32],
+    owners: &mut [u32],
+    amounts: &mut [u64],
+    logkinds: &mut [u32],
+    logkeys: &mut [u32],
+    logparents: &mut [u32],
+    logranks: &mut [u32],
+    logowners: &mut [u32],
+    logamounts: &mut [u64],
+    input: &mut [u8],
+    line: &mut [u8],
+    out: &mut [u8],
+)
+    requires { ⌜ 256 ≤ length (now out) ⌝ }
+{
+    let reading = read_all(
+        parents,
+        ranks,
+        owners,
+        amounts,
+        logkinds,
+        logkeys,
+        logparents,
+        logranks,
+        logowners,
+        logamounts,
+        input,
+        line,
+        out,
+    );
+    finish(
+        reading,
+        parents,
+        ranks,
+        owners,
+        amounts,
+        logkinds,
+        logkeys,
+        logparents,
+        logranks,
+        logowners,
+        logamounts,
+        line,
+        out,
+    );
+}
+
+// The memory that is lent: as much as a stack of 8 MiB holds with room to spare.
+fn main() {
+    let mut parents = [0u32; 65600];
+    let mut ranks = [0u32; 65600];
+    let mut owners = [0u32; 65600];
+    let mut amounts = [0u64; 65600];
+    let mut logkinds = [0u32; 131072];
+    let mut logkeys = [0u32; 131072];
+    let mut logparents = [0u32; 131072];
+    let mut logranks = [0u32; 131072];
+    let mut logowners = [0u32; 131072];
+    let mut logamounts = [0u64; 131072];
+    let mut input = io::large_buffer();
+    let mut line = io::large_buffer();
+    let mut out = io::large_buffer();
+    work(
+        &mut parents,
+        &mut ranks,
+        &mut owners,
+        &mut amounts,
+        &mut logkinds,
+        &mut logkeys,
+        &mut logparents,
+        &mut logranks,
+        &mut logowners,
+        &mut logamounts,
+        &mut input,
+        &mut line,
+        &mut out,
+    );
+}

@@ -1,0 +1,210 @@
+// Numbers, answers, rows and entries, printed from place `at` of a buffer on. Each function answers the place after
+// what it wrote. The caller leaves room: no answer, row or entry is longer than `ROOM`.
+ghost use mathlib.Core.Path.{_≡_};
+ghost use Prim.Native.Nat.{_+_, _-_, _≤_, _<_};
+ghost use lib.ListN.{length};
+ghost use lib.Seq.{paste};
+ghost use Rattle.io.specs.Digits.{digits, Fewest};
+ghost use Rattle.text.specs.Printed.{Wrote, Spelt};
+use rules::call::Answer;
+use rules::table::Mark;
+use rules::table::State;
+use snapshot_vec::owners::number_of;
+
+// The most that one piece takes.
+pub const ROOM: usize = 256;
+
+// One byte.
+pub fn put_byte(out: &mut [u8], at: usize, byte: u8) -> usize
+    requires { ⌜ at < length (now out) ⌝ }
+    ensures { λ r. ⌜ r ≡ at + 1 ⌝ }
+{
+    out[at] = byte;
+    at + 1
+}
+
+// Some bytes.
+pub fn put_bytes(out: &mut [u8], at: usize, bytes: &[u8]) -> usize
+    requires { ⌜ at + length (now bytes) ≤ length (now out) ⌝ }
+    ensures { λ r. ⌜ r ≡ at + length (now (bytes .entry)) ⌝ }
+    ensures { λ r. ⌜ now (out .exit) ≡ paste (now (out .entry)) at (now (bytes .entry)) (length (now (bytes .entry))) ⌝ }
+{
+    let mut i = 0;
+    while i < bytes.len() {
+        out[at + i] = bytes[i];
+        i += 1;
+    }
+    at + bytes.len()
+}
+
+// A number's decimal digits, the fewest that hold it.
+pub fn put_number(out: &mut [u8], at: usize, n: u64) -> usize
+    requires { ⌜ at + 20 ≤ length (now out) ⌝ }
+    ensures { λ r. ⌜ Spelt (now (out .entry)) (now (out .exit)) at n r ⌝ }
+{
+    let mut digits = [0u8; 20];
+    let count = io::decimal(n, &mut digits);
+    put_bytes(out, at, &digits[..count])
+}
+
+// A blank and a number.
+pub fn put_next(out: &mut [u8], at: usize, n: u64) -> usize
+    requires { ⌜ at + 21 ≤ length (now out) ⌝ }
+    ensures { λ r. ⌜ Wrote at 21 r ⌝ }
+{
+    let next = put_byte(out, at, b' ');
+    put_number(out, next, n)
+}
+
+// Four numbers, a blank before each.
+fn put_four(out: &mut [u8], at: usize, a: u64, b: u64, c: u64, d: u64) -> usize
+    requires { ⌜ at + 84 ≤ length (now out) ⌝ }
+    ensures { λ r. ⌜ Wrote at 84 r ⌝ }
+{
+    let second = put_next(out, at, a);
+    let third = put_next(out, second, b);
+    let fourth = put_next(out, third, c);
+    put_next(out, fourth, d)
+}
+
+// Nine numbers, as an answer has them.
+fn put_nine(
+    out: &mut [u8],
+    at: usize,
+    no: u64,
+    key: u64,
+    token: u64,
+    owner: u64,
+    amount: u64,
+    steps: u64,
+    yes: u64,
+    from: u64,
+    to: u64,
+) -> usize
+    requires { ⌜ at + 256 ≤ length (now out) ⌝ }
+    ensures { λ r. ⌜ Wrote at 256 r ⌝ }
+{
+    let second = put_number(out, at, no);
+    let sixth = put_four(out, second, key, token, owner, amount);
+    put_four(out, sixth, steps, yes, from, to)
+}
+
+// An answer.
+pub fn put_answer(out: &mut [u8], at: usize, answer: Answer) -> usize
+    requires { ⌜ at + 256 ≤ length (now out) ⌝ }
+    ensures { λ r. ⌜ Wrote at 256 r ⌝ }
+{
+    let held = answer.owner;
+    let owner = number_of(held) as u64;
+    let no = answer.no as u64;
+    let key = answer.key as u64;
+    let steps = answer.steps as u64;
+    let yes = answer.yes as u64;
+    let from = answer.from as u64;
+    let to = answer.to as u64;
+    put_nine(
+        out,
+        at,
+        no,
+        key,
+        answer.token,
+        owner,
+        answer.amount,
+        steps,
+        yes,
+        from,
+        to,
+    )
+}
+
+// A lent number, or that there is none at this place.
+pub enum Cell {
+    Missing,
+    Number(u64),
+}
+
+// A blank and a lent number, `-` where there is none.
+pub fn put_cell(out: &mut [u8], at: usize, cell: Cell) -> usize
+    requires { ⌜ at + 21 ≤ length (now out) ⌝ }
+    ensures { λ r. ⌜ Wrote at 21 r ⌝ }
+{
+    match cell {
+        Cell::Missing => put_bytes(out, at, b" -"),
+        Cell::Number(n) => put_next(out, at, n),
+    }
+}
+
+// A row's four numbers.
+pub fn put_row(
+    out: &mut [u8],
+    at: usize,
+    parent: Cell,
+    rank: Cell,
+    owner: Cell,
+    amount: Cell,
+) -> usize
+    requires { ⌜ at + 84 ≤ length (now out) ⌝ }
+    ensures { λ r. ⌜ Wrote at 84 r ⌝ }
+{
+    let second = put_cell(out, at, parent);
+    let third = put_cell(out, second, rank);
+    let fourth = put_cell(out, third, owner);
+    put_cell(out, fourth, amount)
+}
+
+// ` |`, which parts rows, entries and marks.
+pub fn put_bar(out: &mut [u8], at: usize) -> usize
+    requires { ⌜ at + 2 ≤ length (now out) ⌝ }
+    ensures { λ r. ⌜ Wrote at 2 r ⌝ }
+{
+    put_bytes(out, at, b" |")
+}
+
+// The kind and the key of an entry, after a bar; its row follows.
+pub fn put_kind(out: &mut [u8], at: usize, kind: Cell, key: Cell) -> usize
+    requires { ⌜ at + 44 ≤ length (now out) ⌝ }
+    ensures { λ r. ⌜ Wrote at 44 r ⌝ }
+{
+    let first = put_bar(out, at);
+    let second = put_cell(out, first, kind);
+    put_cell(out, second, key)
+}
+
+// A mark, after a bar.
+pub fn put_mark(out: &mut [u8], at: usize, mark: Mark) -> usize
+    requires { ⌜ at + 256 ≤ length (now out) ⌝ }
+    ensures { λ r. ⌜ Wrote at 256 r ⌝ }
+{
+    let first = put_bar(out, at);
+    let second = put_next(out, first, mark.serial);
+    let third = put_next(out, second, mark.log_len as u64);
+    put_next(out, third, mark.keys as u64)
+}
+
+// The numbers of a state, and the word before the marks.
+pub fn put_state(out: &mut [u8], at: usize, state: State) -> usize
+    requires { ⌜ at + 256 ≤ length (now out) ⌝ }
+    ensures { λ r. ⌜ Wrote at 256 r ⌝ }
+{
+    let first = put_bytes(out, at, b" state");
+    let count = state.count as u64;
+    let marks = put_four(
+        out,
+        first,
+        count,
+        state.used as u64,
+        state.open as u64,
+        state.last,
+    );
+    put_bytes(out, marks, b" marks")
+}
+
+// `error` and the line's number, with a line feed.
+pub fn put_error(out: &mut [u8], at: usize, line: u64) -> usize
+    requires { ⌜ at + 256 ≤ length (now out) ⌝ }
+    ensures { λ r. ⌜ Wrote at 256 r ⌝ }
+{
+    let number = put_bytes(out, at, b"error");
+    let end = put_next(out, number, line);
+    put_byte(out, end, b'\n')
+}
