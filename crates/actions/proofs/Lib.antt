@@ -2,4 +2,5 @@
 pub mod PartLaws
 pub mod AnswerLaws
 pub mod Shapes
+pub mod ShowCall
 pub mod ViewLaws

@@ -6,7 +6,7 @@ ghost use Rattle.rules.specs.Tokens.{part, viewed};
 ghost use Rattle.rules.specs.Refusal.{outcome};
 ghost use Rattle.rules.specs.Step.{step};
 ghost use Rattle.rules.specs.Contract.{rowsLent, logLent, tableLent};
-ghost use Rattle.actions.specs.View.{seen};
+ghost use Rattle.actions.specs.View.{seen, lentAt};
 use rules::answer::refusal;
 use rules::call::Answer;
 use rules::numbers::BAD_STATE;
@@ -15,6 +15,7 @@ use rules::numbers::KIND_SET;
 use rules::table::Row;
 use rules::table::State;
 use rules::table::UndoLog;
+use snapshot_vec::entries::Numbers;
 use snapshot_vec::owners::owner_of;
 use undo_log::state::bad_state;
 use undo_log::tokens::actions_since;
@@ -195,6 +196,49 @@ pub fn entry_at<'a>(
     ensures { let log = logLent logkinds logkeys logparents logranks logowners logamounts in λ r. ⌜ r ≡ entryAt (log .entry) i ⌝ }
 {
     entry_of(
+        logkinds,
+        logkeys,
+        logparents,
+        logranks,
+        logowners,
+        logamounts,
+        i,
+    )
+}
+
+// The numbers of entry `i` as they are lent, whatever its kind; 0 past the end.
+pub fn lent_of(
+    logkinds: &[u32],
+    logkeys: &[u32],
+    logparents: &[u32],
+    logranks: &[u32],
+    logowners: &[u32],
+    logamounts: &[u64],
+    i: usize,
+) -> Numbers
+    ensures { let log = logLent logkinds logkeys logparents logranks logowners logamounts in λ r. ⌜ r ≡ lentAt (log .entry) i ⌝ }
+{
+    let old = row_of(logparents, logranks, logowners, logamounts, i);
+    Numbers {
+        kind: number32(logkinds, i),
+        key: number32(logkeys, i),
+        old,
+    }
+}
+
+// The same at one lifetime.
+pub fn lent_at<'a>(
+    logkinds: &'a [u32],
+    logkeys: &'a [u32],
+    logparents: &'a [u32],
+    logranks: &'a [u32],
+    logowners: &'a [u32],
+    logamounts: &'a [u64],
+    i: usize,
+) -> Numbers
+    ensures { let log = logLent logkinds logkeys logparents logranks logowners logamounts in λ r. ⌜ r ≡ lentAt (log .entry) i ⌝ }
+{
+    lent_of(
         logkinds,
         logkeys,
         logparents,

@@ -3,13 +3,14 @@ ghost use lib.ListN.{length};
 ghost use Rattle.rules.specs.Lent.{entryAt};
 ghost use Rattle.rules.specs.Tokens.{viewed};
 ghost use Rattle.rules.specs.Contract.{logLent, tableLent};
-ghost use Rattle.actions.specs.View.{shown, seen, Since};
+ghost use Rattle.actions.specs.View.{shown, seen, lentAt, Since};
 use crate::core::answer_since;
 use crate::core::part32;
 use crate::core::part64;
 use rules::call::Answer;
 use rules::table::State;
 use rules::table::UndoLog;
+use snapshot_vec::entries::Numbers;
 
 // The entries since a snapshot: the log's six parts, each from the mark's log length to the used end.
 pub struct Actions<'a> {
@@ -109,6 +110,13 @@ pub fn entry<'a>(v: Actions<'a>, i: usize) -> UndoLog
     crate::core::entry_at(v.kinds, v.keys, v.parents, v.ranks, v.owners, v.amounts, i)
 }
 
+// The numbers of entry `i` of a view as they are lent, whatever its kind; 0 past its end.
+pub fn lent_entry<'a>(v: Actions<'a>, i: usize) -> Numbers
+    ensures { λ r. ⌜ r ≡ lentAt (shown (v .entry)) i ⌝ }
+{
+    crate::core::lent_at(v.kinds, v.keys, v.parents, v.ranks, v.owners, v.amounts, i)
+}
+
 // Entry `i` since the snapshot that a token names, read through the view. Its parameters are slices and numbers, so a caller
 // needs no walk.
 pub fn action_at<'a>(
@@ -144,4 +152,40 @@ pub fn action_at<'a>(
         token,
     );
     entry(shown.view, i)
+}
+
+// The numbers of that entry as they are lent, read through the view: what a list of the log shows.
+pub fn lent_action_at<'a>(
+    state: State,
+    parents: &'a [u32],
+    ranks: &'a [u32],
+    owners: &'a [u32],
+    amounts: &'a [u64],
+    logkinds: &'a [u32],
+    logkeys: &'a [u32],
+    logparents: &'a [u32],
+    logranks: &'a [u32],
+    logowners: &'a [u32],
+    logamounts: &'a [u64],
+    token: u64,
+    i: usize,
+) -> Numbers
+    ensures { let t = tableLent parents ranks owners amounts logkinds logkeys logparents logranks logowners logamounts in
+        λ r. ⌜ r ≡ lentAt (seen (t .entry state) token) i ⌝ }
+{
+    let shown = actions_since_snapshot(
+        state,
+        parents,
+        ranks,
+        owners,
+        amounts,
+        logkinds,
+        logkeys,
+        logparents,
+        logranks,
+        logowners,
+        logamounts,
+        token,
+    );
+    lent_entry(shown.view, i)
 }
