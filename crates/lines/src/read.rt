@@ -1,53 +1,49 @@
 ghost use Prim.Native.Nat.{_≤_};
 ghost use lib.ListN.{length};
-use crate::buffer::flush;
-use crate::damage::fresh;
+use crate::gather::Gathered;
 use crate::gather::gather;
-use crate::lent::even;
-use crate::line::Session;
-use crate::line::answer_line;
 use crate::line::command_of;
+use crate::say::say;
+use memory::change::change;
+use memory::damage::fresh;
+use memory::lent::even;
+use memory::reply::Changed;
+use rules::table::State;
+use text::command::Lengths;
 
-// A list of calls that is being read: the line so far, and the part of the input that is at hand.
+// A list of calls that is being read: what goes from line to line, the line so far, and the part of the input that is at hand.
 pub struct Reading {
-    pub session: Session,
+    pub lengths: Lengths,
+    pub state: State,
+    pub line: u64,
+    pub at: usize,
     pub n: usize,
     pub overlong: bool,
     pub from: usize,
     pub count: usize,
     pub more: bool,
+    pub ended: bool,
 }
 
 // Nothing lent and nothing read.
 pub fn begin() -> Reading {
     let lengths = even(0, 0);
     let state = fresh();
-    let session = Session {
+    Reading {
         lengths,
         state,
         line: 0,
         at: 0,
-    };
-    Reading {
-        session,
         n: 0,
         overlong: false,
         from: 0,
         count: 0,
         more: true,
+        ended: false,
     }
 }
 
-// The next line's session: its number is one more.
-fn next_line(session: Session) -> Session {
-    let mut next = session;
-    if session.line < 18446744073709551615 {
-        next.line = session.line + 1;
-    }
-    next
-}
-
-// One turn: a line from the input at hand, or more input.
+// One turn: more input where there is none at hand, then bytes up to a line's end, and where it is reached, the line's answer.
 pub fn turn(
     reading: Reading,
     parents: &mut [u32],
@@ -66,11 +62,16 @@ pub fn turn(
 ) -> Reading
     requires { ⌜ 256 ≤ length (now out) ⌝ }
 {
-    if reading.from >= reading.count {
-        return refill(reading, input);
+    let filled = refill(reading, input);
+    let got = take(filled, input, line);
+    if !got.ended {
+        return got;
     }
-    take_line(
-        reading,
+    let lengths = got.lengths;
+    let state = got.state;
+    let changed = change(
+        lengths,
+        state,
         parents,
         ranks,
         owners,
@@ -81,14 +82,37 @@ pub fn turn(
         logranks,
         logowners,
         logamounts,
-        input,
-        line,
+        command_of(line, got.n, got.overlong),
+    );
+    let after_lengths = changed.lengths;
+    let after = changed.state;
+    let reply = changed.reply;
+    let at = say(
         out,
-    )
+        got.at,
+        after_lengths,
+        after,
+        parents,
+        ranks,
+        owners,
+        amounts,
+        logkinds,
+        logkeys,
+        logparents,
+        logranks,
+        logowners,
+        logamounts,
+        reply,
+        got.line,
+    );
+    next_line(got, changed, at)
 }
 
-// More input, if there is any.
+// More input, where none is at hand and there is any.
 fn refill(reading: Reading, input: &mut [u8]) -> Reading {
+    if reading.from < reading.count {
+        return reading;
+    }
     let got = libc::read(0, input);
     let count = io::count(got, input);
     let mut after = reading;
@@ -98,25 +122,8 @@ fn refill(reading: Reading, input: &mut [u8]) -> Reading {
     after
 }
 
-// Gathers a line, and answers it once it has ended.
-fn take_line(
-    reading: Reading,
-    parents: &mut [u32],
-    ranks: &mut [u32],
-    owners: &mut [u32],
-    amounts: &mut [u64],
-    logkinds: &mut [u32],
-    logkeys: &mut [u32],
-    logparents: &mut [u32],
-    logranks: &mut [u32],
-    logowners: &mut [u32],
-    logamounts: &mut [u64],
-    input: &[u8],
-    line: &mut [u8],
-    out: &mut [u8],
-) -> Reading
-    requires { ⌜ 256 ≤ length (now out) ⌝ }
-{
+// Gathers bytes of a line. It ends at a line feed, or with the input, if it has begun.
+fn take(reading: Reading, input: &[u8], line: &mut [u8]) -> Reading {
     let got = gather(
         line,
         reading.n,
@@ -129,110 +136,41 @@ fn take_line(
     after.from = got.next;
     after.n = got.n;
     after.overlong = got.overlong;
-    if !got.ended {
-        return after;
-    }
-    end_line(
-        after,
-        parents,
-        ranks,
-        owners,
-        amounts,
-        logkinds,
-        logkeys,
-        logparents,
-        logranks,
-        logowners,
-        logamounts,
-        line,
-        out,
-    )
+    after.ended = ends(reading.more, got);
+    after.line = line_number(reading.line, after.ended);
+    after
 }
 
-// Answers the line that was gathered.
-pub fn end_line(
-    reading: Reading,
-    parents: &mut [u32],
-    ranks: &mut [u32],
-    owners: &mut [u32],
-    amounts: &mut [u64],
-    logkinds: &mut [u32],
-    logkeys: &mut [u32],
-    logparents: &mut [u32],
-    logranks: &mut [u32],
-    logowners: &mut [u32],
-    logamounts: &mut [u64],
-    line: &[u8],
-    out: &mut [u8],
-) -> Reading
-    requires { ⌜ 256 ≤ length (now out) ⌝ }
-{
-    let session = reading.session;
-    let next = next_line(session);
-    let command = command_of(line, reading.n, reading.overlong);
-    let answered = answer_line(
-        next,
-        parents,
-        ranks,
-        owners,
-        amounts,
-        logkinds,
-        logkeys,
-        logparents,
-        logranks,
-        logowners,
-        logamounts,
-        out,
-        command,
-    );
+fn ends(more: bool, got: Gathered) -> bool {
+    if more {
+        return got.ended;
+    }
+    got.n > 0
+}
+
+// The number of a line once it has ended: one more.
+fn line_number(line: u64, ended: bool) -> u64 {
+    if !ended {
+        return line;
+    }
+    if line == 18446744073709551615 {
+        return line;
+    }
+    line + 1
+}
+
+// Ready for the next line.
+fn next_line(reading: Reading, changed: Changed, at: usize) -> Reading {
     Reading {
-        session: answered,
+        lengths: changed.lengths,
+        state: changed.state,
+        line: reading.line,
+        at,
         n: 0,
         overlong: false,
         from: reading.from,
         count: reading.count,
         more: reading.more,
+        ended: false,
     }
-}
-
-// The last line, which needs no line feed, and what is still to be written.
-pub fn finish(
-    reading: Reading,
-    parents: &mut [u32],
-    ranks: &mut [u32],
-    owners: &mut [u32],
-    amounts: &mut [u64],
-    logkinds: &mut [u32],
-    logkeys: &mut [u32],
-    logparents: &mut [u32],
-    logranks: &mut [u32],
-    logowners: &mut [u32],
-    logamounts: &mut [u64],
-    line: &[u8],
-    out: &mut [u8],
-)
-    requires { ⌜ 256 ≤ length (now out) ⌝ }
-{
-    if reading.n > 0 {
-        let last = end_line(
-            reading,
-            parents,
-            ranks,
-            owners,
-            amounts,
-            logkinds,
-            logkeys,
-            logparents,
-            logranks,
-            logowners,
-            logamounts,
-            line,
-            out,
-        );
-        let session = last.session;
-        flush(out, session.at);
-        return;
-    }
-    let session = reading.session;
-    flush(out, session.at);
 }

@@ -1,14 +1,15 @@
 ghost use Prim.Native.Nat.{_≤_};
 ghost use lib.ListN.{length};
 use crate::buffer::room;
-use crate::lent::in_use;
-use crate::lent::longest_log;
-use crate::lent::longest_rows;
-use crate::reply::Reply;
 use crate::show::entries;
 use crate::show::marks;
 use crate::show::row_cells;
 use crate::show::rows;
+use crate::since::entries_since;
+use memory::lent::in_use;
+use memory::lent::longest_log;
+use memory::lent::longest_rows;
+use memory::reply::Reply;
 use rules::call::Answer;
 use rules::table::State;
 use text::command::Lengths;
@@ -19,21 +20,21 @@ use text::print::put_error;
 use text::print::put_state;
 
 // Prints a reply, with a line feed. Answers the place after it.
-pub fn say(
+pub fn say<'a>(
     out: &mut [u8],
     at: usize,
     lengths: Lengths,
     state: State,
-    parents: &[u32],
-    ranks: &[u32],
-    owners: &[u32],
-    amounts: &[u64],
-    logkinds: &[u32],
-    logkeys: &[u32],
-    logparents: &[u32],
-    logranks: &[u32],
-    logowners: &[u32],
-    logamounts: &[u64],
+    parents: &'a [u32],
+    ranks: &'a [u32],
+    owners: &'a [u32],
+    amounts: &'a [u64],
+    logkinds: &'a [u32],
+    logkeys: &'a [u32],
+    logparents: &'a [u32],
+    logranks: &'a [u32],
+    logowners: &'a [u32],
+    logamounts: &'a [u64],
     reply: Reply,
     line: u64,
 ) -> usize
@@ -45,16 +46,22 @@ pub fn say(
         Reply::Ok => ok(out, at),
         Reply::Table => table(out, at),
         Reply::Answer(answer) => answered(out, at, answer),
-        Reply::Actions(answer) => actions(
+        Reply::Actions(token, answer) => actions(
             out,
             at,
             lengths,
+            state,
+            parents,
+            ranks,
+            owners,
+            amounts,
             logkinds,
             logkeys,
             logparents,
             logranks,
             logowners,
             logamounts,
+            token,
             answer,
         ),
         Reply::Row(key) => row(out, at, lengths, parents, ranks, owners, amounts, key),
@@ -130,37 +137,56 @@ fn answered(out: &mut [u8], at: usize, answer: Answer) -> usize
     feed(out, end)
 }
 
-// An answer, and the entries that it is about: those from `from` to `to`, which is none where it is refused.
-fn actions(
+// An answer, and the entries that it is about: none where it is refused.
+fn actions<'a>(
     out: &mut [u8],
     at: usize,
     lengths: Lengths,
-    logkinds: &[u32],
-    logkeys: &[u32],
-    logparents: &[u32],
-    logranks: &[u32],
-    logowners: &[u32],
-    logamounts: &[u64],
+    state: State,
+    parents: &'a [u32],
+    ranks: &'a [u32],
+    owners: &'a [u32],
+    amounts: &'a [u64],
+    logkinds: &'a [u32],
+    logkeys: &'a [u32],
+    logparents: &'a [u32],
+    logranks: &'a [u32],
+    logowners: &'a [u32],
+    logamounts: &'a [u64],
+    token: u64,
     answer: Answer,
 ) -> usize
     requires { ⌜ 256 ≤ length (now out) ⌝ }
 {
     let start = room(out, at);
     let middle = put_answer(out, start, answer);
-    let end = entries(
+    let end = entries_since(
         out,
         middle,
         lengths,
+        state,
+        parents,
+        ranks,
+        owners,
+        amounts,
         logkinds,
         logkeys,
         logparents,
         logranks,
         logowners,
         logamounts,
-        answer.from,
-        answer.to,
+        token,
+        places(answer.from, answer.to),
     );
     feed(out, end)
+}
+
+// How many places a range has.
+fn places(from: u32, to: u32) -> u32 {
+    if to < from {
+        return 0;
+    }
+    to - from
 }
 
 fn row(

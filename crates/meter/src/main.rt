@@ -1,14 +1,13 @@
 // Reads a list of calls from standard input and prints their answers. What is decided is decided in the library `lines`.
 ghost use Prim.Native.Nat.{_≤_};
 ghost use lib.ListN.{length};
-use lines::read::Reading;
+use lines::buffer::flush;
 use lines::read::begin;
-use lines::read::finish;
 use lines::read::turn;
 
 // A proved loop has to end, and nothing says that the input does: so turns are counted down, from a number that no run
 // uses up.
-fn read_all(
+fn work(
     parents: &mut [u32],
     ranks: &mut [u32],
     owners: &mut [u32],
@@ -22,14 +21,14 @@ fn read_all(
     input: &mut [u8],
     line: &mut [u8],
     out: &mut [u8],
-) -> Reading
+)
     requires { ⌜ 256 ≤ length (now out) ⌝ }
 {
     let mut reading = begin();
     let mut turns = u64::MAX;
     while turns > 0 {
         if !reading.more {
-            return reading;
+            break;
         }
         reading = turn(
             reading,
@@ -49,56 +48,7 @@ fn read_all(
         );
         turns -= 1;
     }
-    reading
-}
-
-fn work(
-    parents: &mut [u32],
-    ranks: &mut [u32],
-    owners: &mut [u32],
-    amounts: &mut [u64],
-    logkinds: &mut [u32],
-    logkeys: &mut [u32],
-    logparents: &mut [u32],
-    logranks: &mut [u32],
-    logowners: &mut [u32],
-    logamounts: &mut [u64],
-    input: &mut [u8],
-    line: &mut [u8],
-    out: &mut [u8],
-)
-    requires { ⌜ 256 ≤ length (now out) ⌝ }
-{
-    let reading = read_all(
-        parents,
-        ranks,
-        owners,
-        amounts,
-        logkinds,
-        logkeys,
-        logparents,
-        logranks,
-        logowners,
-        logamounts,
-        input,
-        line,
-        out,
-    );
-    finish(
-        reading,
-        parents,
-        ranks,
-        owners,
-        amounts,
-        logkinds,
-        logkeys,
-        logparents,
-        logranks,
-        logowners,
-        logamounts,
-        line,
-        out,
-    );
+    flush(out, reading.at);
 }
 
 // The memory that is lent: as much as a stack of 8 MiB holds with room to spare.

@@ -9,8 +9,7 @@ pub enum Reply {
     Error,
     Ok,
     Table,
-    Answer(Answer),
-    Actions(Answer),
+    Answer(Call, Answer),
     Row(u32),
     Live,
     Dump,
@@ -21,14 +20,6 @@ pub struct Changed {
     pub lengths: Lengths,
     pub state: State,
     pub reply: Reply,
-}
-
-// A call's reply: `actions` shows entries too.
-pub fn reply_to(call: Call, answer: Answer) -> Reply {
-    match call {
-        Call::Actions(_) => Reply::Actions(answer),
-        _ => Reply::Answer(answer),
-    }
 }
 
 // `ok`, or an error where nothing could be done.

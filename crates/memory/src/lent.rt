@@ -1,4 +1,6 @@
+ghost use mathlib.Core.Path.{_≡_};
 ghost use Prim.Native.Nat.{_≤_};
+ghost use Rattle.memory.specs.Cut.{within};
 use text::command::Lengths;
 
 // The most rows and entries that can be lent.
@@ -8,6 +10,7 @@ pub const MOST_ENTRIES: u32 = 131072;
 
 // How much of a part is lent: never more than there is.
 pub fn lent(length: u32, most: usize) -> usize
+    ensures { λ r. ⌜ r ≡ within length most ⌝ }
     ensures { λ r. ⌜ r ≤ most ⌝ }
 {
     let wanted = length as usize;

@@ -1,5 +1,9 @@
+ghost use mathlib.Core.Path.{_≡_};
+ghost use Rattle.rules.specs.Contract.{tableLent};
+ghost use Rattle.memory.specs.Cut.{left, called};
 use crate::lent::lent;
-use rules::call::Answered;
+use crate::reply::Changed;
+use crate::reply::Reply;
 use rules::call::Call;
 use rules::table::State;
 use text::command::Lengths;
@@ -19,7 +23,10 @@ pub fn call_lent(
     logowners: &mut [u32],
     logamounts: &mut [u64],
     call: Call,
-) -> Answered {
+) -> Changed
+    ensures { let t = tableLent parents ranks owners amounts logkinds logkeys logparents logranks logowners logamounts in
+        λ r. ⌜ left r (t .exit) ≡ called lengths (t .entry state) call ⌝ }
+{
     let a = lent(lengths.parents, parents.len());
     let b = lent(lengths.ranks, ranks.len());
     let c = lent(lengths.owners, owners.len());
@@ -30,7 +37,7 @@ pub fn call_lent(
     let h = lent(lengths.logranks, logranks.len());
     let i = lent(lengths.logowners, logowners.len());
     let j = lent(lengths.logamounts, logamounts.len());
-    unify::calls::call(
+    let answered = unify::calls::call(
         state,
         &mut parents[..a],
         &mut ranks[..b],
@@ -43,5 +50,13 @@ pub fn call_lent(
         &mut logowners[..i],
         &mut logamounts[..j],
         call,
-    )
+    );
+    let answer = answered.answer;
+    let after = answered.state;
+    let reply = Reply::Answer(call, answer);
+    Changed {
+        lengths,
+        state: after,
+        reply,
+    }
 }

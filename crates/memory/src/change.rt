@@ -13,8 +13,6 @@ use crate::lent::possible;
 use crate::reply::Changed;
 use crate::reply::Reply;
 use crate::reply::done;
-use crate::reply::reply_to;
-use rules::call::Call;
 use rules::table::State;
 use text::command::Command;
 use text::command::Lengths;
@@ -36,8 +34,26 @@ pub fn change(
     logamounts: &mut [u64],
     command: Command,
 ) -> Changed {
+    let lending = lending_of(lengths, command);
+    if lending.asked {
+        return lend(
+            lengths,
+            state,
+            lending,
+            parents,
+            ranks,
+            owners,
+            amounts,
+            logkinds,
+            logkeys,
+            logparents,
+            logranks,
+            logowners,
+            logamounts,
+        );
+    }
     match command {
-        Command::Call(call) => called(
+        Command::Call(call) => call_lent(
             lengths,
             state,
             parents,
@@ -51,46 +67,6 @@ pub fn change(
             logowners,
             logamounts,
             call,
-        ),
-        Command::Table(rows, log) => {
-            let none = even(0, 0);
-            let wanted = even(rows, log);
-            lend(
-                lengths,
-                state,
-                none,
-                wanted,
-                fresh(),
-                Reply::Table,
-                parents,
-                ranks,
-                owners,
-                amounts,
-                logkinds,
-                logkeys,
-                logparents,
-                logranks,
-                logowners,
-                logamounts,
-            )
-        }
-        Command::Lend(wanted) => lend(
-            lengths,
-            state,
-            lengths,
-            wanted,
-            state,
-            Reply::Ok,
-            parents,
-            ranks,
-            owners,
-            amounts,
-            logkinds,
-            logkeys,
-            logparents,
-            logranks,
-            logowners,
-            logamounts,
         ),
         Command::SetRow(key, row) => put_row(
             lengths,
@@ -120,55 +96,42 @@ pub fn change(
     }
 }
 
-// A call of the table.
-fn called(
-    lengths: Lengths,
-    state: State,
-    parents: &mut [u32],
-    ranks: &mut [u32],
-    owners: &mut [u32],
-    amounts: &mut [u64],
-    logkinds: &mut [u32],
-    logkeys: &mut [u32],
-    logparents: &mut [u32],
-    logranks: &mut [u32],
-    logowners: &mut [u32],
-    logamounts: &mut [u64],
-    call: Call,
-) -> Changed {
-    let answered = call_lent(
-        lengths,
-        state,
-        parents,
-        ranks,
-        owners,
-        amounts,
-        logkinds,
-        logkeys,
-        logparents,
-        logranks,
-        logowners,
-        logamounts,
-        call,
-    );
-    let answer = answered.answer;
-    let after = answered.state;
-    let reply = reply_to(call, answer);
-    Changed {
-        lengths,
-        state: after,
-        reply,
+// Other lengths that a command asks for. What lies from an old length up to the new one becomes 0: for a fresh table all of it.
+pub struct Lending {
+    pub asked: bool,
+    pub fresh: bool,
+    pub old: Lengths,
+    pub new: Lengths,
+}
+
+fn lending_of(lengths: Lengths, command: Command) -> Lending {
+    match command {
+        Command::Table(rows, log) => Lending {
+            asked: true,
+            fresh: true,
+            old: even(0, 0),
+            new: even(rows, log),
+        },
+        Command::Lend(wanted) => Lending {
+            asked: true,
+            fresh: false,
+            old: lengths,
+            new: wanted,
+        },
+        _ => Lending {
+            asked: false,
+            fresh: false,
+            old: lengths,
+            new: lengths,
+        },
     }
 }
 
-// Other lengths, with what is newly lent 0; an error where there is no room.
+// Lends other lengths; an error where there is no room.
 fn lend(
     lengths: Lengths,
     state: State,
-    old: Lengths,
-    wanted: Lengths,
-    after: State,
-    reply: Reply,
+    lending: Lending,
     parents: &mut [u32],
     ranks: &mut [u32],
     owners: &mut [u32],
@@ -180,18 +143,19 @@ fn lend(
     logowners: &mut [u32],
     logamounts: &mut [u64],
 ) -> Changed {
-    if !possible(wanted) {
-        let refused = Reply::Error;
+    let old = lending.old;
+    let new = lending.new;
+    if !possible(new) {
         return Changed {
             lengths,
             state,
-            reply: refused,
+            reply: Reply::Error,
         };
     }
-    clear_rows(old, wanted, parents, ranks, owners, amounts);
+    clear_rows(old, new, parents, ranks, owners, amounts);
     clear_log(
         old,
-        wanted,
+        new,
         logkinds,
         logkeys,
         logparents,
@@ -199,10 +163,17 @@ fn lend(
         logowners,
         logamounts,
     );
+    if lending.fresh {
+        return Changed {
+            lengths: new,
+            state: fresh(),
+            reply: Reply::Table,
+        };
+    }
     Changed {
-        lengths: wanted,
-        state: after,
-        reply,
+        lengths: new,
+        state,
+        reply: Reply::Ok,
     }
 }
 
