@@ -161,9 +161,11 @@ fn line_number(line: u64, ended: bool) -> u64 {
 
 // Ready for the next line.
 fn next_line(reading: Reading, changed: Changed, at: usize) -> Reading {
+    let lengths = changed.lengths;
+    let state = changed.state;
     Reading {
-        lengths: changed.lengths,
-        state: changed.state,
+        lengths,
+        state,
         line: reading.line,
         at,
         n: 0,

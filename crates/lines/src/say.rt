@@ -11,6 +11,7 @@ use memory::lent::longest_log;
 use memory::lent::longest_rows;
 use memory::reply::Reply;
 use rules::call::Answer;
+use rules::call::Call;
 use rules::table::State;
 use text::command::Lengths;
 use text::print::put_answer;
@@ -45,8 +46,7 @@ pub fn say<'a>(
         Reply::Error => error(out, at, line),
         Reply::Ok => ok(out, at),
         Reply::Table => table(out, at),
-        Reply::Answer(answer) => answered(out, at, answer),
-        Reply::Actions(token, answer) => actions(
+        Reply::Answer(call, answer) => answered(
             out,
             at,
             lengths,
@@ -61,7 +61,7 @@ pub fn say<'a>(
             logranks,
             logowners,
             logamounts,
-            token,
+            call,
             answer,
         ),
         Reply::Row(key) => row(out, at, lengths, parents, ranks, owners, amounts, key),
@@ -129,16 +129,8 @@ fn table(out: &mut [u8], at: usize) -> usize
     put_bytes(out, start, b"table\n")
 }
 
-fn answered(out: &mut [u8], at: usize, answer: Answer) -> usize
-    requires { ⌜ 256 ≤ length (now out) ⌝ }
-{
-    let start = room(out, at);
-    let end = put_answer(out, start, answer);
-    feed(out, end)
-}
-
-// An answer, and the entries that it is about: none where it is refused.
-fn actions<'a>(
+// A call's answer. That of `actions` goes on with the entries that it is about: none where it is refused.
+fn answered<'a>(
     out: &mut [u8],
     at: usize,
     lengths: Lengths,
@@ -153,7 +145,7 @@ fn actions<'a>(
     logranks: &'a [u32],
     logowners: &'a [u32],
     logamounts: &'a [u64],
-    token: u64,
+    call: Call,
     answer: Answer,
 ) -> usize
     requires { ⌜ 256 ≤ length (now out) ⌝ }
@@ -175,10 +167,26 @@ fn actions<'a>(
         logranks,
         logowners,
         logamounts,
-        token,
-        places(answer.from, answer.to),
+        token_of(call),
+        entries_of(call, answer),
     );
     feed(out, end)
+}
+
+// The token whose entries are shown, if any are.
+fn token_of(call: Call) -> u64 {
+    match call {
+        Call::Actions(token) => token,
+        _ => 0,
+    }
+}
+
+// How many entries are shown.
+fn entries_of(call: Call, answer: Answer) -> u32 {
+    match call {
+        Call::Actions(_) => places(answer.from, answer.to),
+        _ => 0,
+    }
 }
 
 // How many places a range has.

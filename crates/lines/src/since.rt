@@ -1,6 +1,10 @@
 // The entries since a snapshot, printed as they are lent: each is read through the view of the log.
+ghost use mathlib.Core.Path.{_≡_};
 ghost use Prim.Native.Nat.{_≤_};
 ghost use lib.ListN.{length};
+ghost use Rattle.rules.specs.Contract.{tableLent};
+ghost use Rattle.actions.specs.View.{seen, lentAt};
+ghost use Rattle.memory.specs.Cut.{lentOf};
 use crate::buffer::room;
 use memory::lent::lent;
 use rules::table::State;
@@ -27,7 +31,10 @@ pub fn lent_action<'a>(
     logamounts: &'a [u64],
     token: u64,
     i: usize,
-) -> Numbers {
+) -> Numbers
+    ensures { let t = tableLent parents ranks owners amounts logkinds logkeys logparents logranks logowners logamounts in
+        λ r. ⌜ r ≡ lentAt (seen (lentOf lengths (t .entry state)) token) i ⌝ }
+{
     let a = lent(lengths.parents, parents.len());
     let b = lent(lengths.ranks, ranks.len());
     let c = lent(lengths.owners, owners.len());

@@ -15,7 +15,7 @@ use Rattle.rules.specs.Contract.{outcomeOf}
 use Rattle.rules.specs.Step.{step}
 use Rattle.text.specs.declared.command.Lengths.{Lengths}
 use Rattle.memory.specs.declared.reply.Reply.the-variants as Reply
-use Rattle.memory.specs.Cut.{within, handedBack, Left, called}
+use Rattle.memory.specs.Cut.{within, lentOf, handedBack, Left, called}
 
 -- ten lengths, each within what there is
 abbrev pub Fits : Lengths → Table → ℕ → ℕ → ℕ → ℕ → ℕ → ℕ → ℕ → ℕ → ℕ → ℕ → Type 0
@@ -68,6 +68,10 @@ rejoined t x a b c d e f g h i j =
       };
     })
     (x .state)
+
+-- the first so many of each part, where so many are lent
+pub fronts-lent : (n : Lengths) (t : Table) (a b c d e f g h i j : ℕ) → Fits n t a b c d e f g h i j → fronts t a b c d e f g h i j ≡ lentOf n t
+fronts-lent n t a b c d e f g h i j k = rw (k .0, k .1, k .2, k .3, k .4, k .5, k .6, k .7, k .8, k .9)
 
 module _ (n : Lengths) (t : Table) (call : Call) (a b c d e f g h i j : ℕ) where
   pub call-handed-back : Fits n t a b c d e f g h i j → (r : Answered) (rs : Rows) (l : Log)

@@ -14,4 +14,4 @@ slice-aggregate-parse c = sym (length-take-le (c .before .before .before .before
 pub command-of-spec : {M : Type 1} → statement M
 command-of-spec =
     tie.close
-    (tie.spec (search needs) (search needs) slice-aggregate-parse (λ c κs. search needs) (search needs))
+    (tie.spec (λ c κs. search needs) (search needs) (search needs) slice-aggregate-parse (λ c κs. search needs) (search needs))
