@@ -49,8 +49,8 @@ def with_live(lines):
 
 
 def with_rows(lines, answers):
-    """A list with the rows that a call names or makes, and those of the entries that `actions` answers, after each call,
-    and the live table now and then and at the end."""
+    """A list with the rows that a call names or makes, and those of the entries that `actions` answers, after each
+    call, and the live table now and then and at the end."""
     shown, known = [], Known()
     for turn, (line, answer) in enumerate(zip(lines, answers), 1):
         shown.append(line)
@@ -98,6 +98,8 @@ class Difference(typing.NamedTuple):
 
 def first_difference(asked, mine, theirs):
     """The first line of a list that the two answer differently, or nothing."""
+    if len(theirs) != len(asked):
+        raise RuntimeError(f"the oracle answers {len(theirs)} of {len(asked)} lines")
     if mine == theirs:
         return None
     if mine[-1:] and mine[-1].startswith(ENDED):  # what it had yet to print is lost, so any line may be the cause
@@ -117,8 +119,8 @@ class Pair:
         self.in_time = True
 
     def ask(self, lines):
-        """What a list of calls is looked at with, and what both print for it. The oracle reads over what is lent, so it is
-        asked first how much that has to be."""
+        """What a list of calls is looked at with, and what both print for it. The oracle reads over what is lent, so it
+        is asked first how much that has to be."""
         if is_wide(lines):
             shown = with_rows(lines, self.oracle(lines))
             theirs = self.oracle(shown)
@@ -169,7 +171,7 @@ class Pair:
 
 
 class Named(typing.NamedTuple):
-    """A call whose keys and token are named by the places of the calls that made them, so that others can be left out."""
+    """A call whose keys and token are named by the places of the calls that made them: others can then be left out."""
     place: int
     words: list
     keys: list

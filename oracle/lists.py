@@ -195,8 +195,8 @@ BASES = [
 ]
 # All fifteen calls. INNER and OUTER stand for the token of the innermost and of the outermost open snapshot.
 STEPS = [
-    "new 1 3", "len", "find 0", "unioned 0 1", "join 0 1", "join 1 2", "join 2 0", "post 0 2 1", "post 1 0 0", "probe 0",
-    "probe_key 1", "try_probe 0", "snapshot", "rollback INNER", "commit INNER", "keys INNER", "keys OUTER",
+    "new 1 3", "len", "find 0", "unioned 0 1", "join 0 1", "join 1 2", "join 2 0", "post 0 2 1", "post 1 0 0",
+    "probe 0", "probe_key 1", "try_probe 0", "snapshot", "rollback INNER", "commit INNER", "keys INNER", "keys OUTER",
     "actions INNER", "actions OUTER", "changes INNER", "changes OUTER",
 ]
 
