@@ -1,3 +1,4 @@
+pub mod Bytes
 pub mod Numeral
 pub mod Line
 pub mod Printed
