@@ -1,4 +1,8 @@
 // A line as a command. Which words name which command, and how wide each number may be, is CALLS.md's.
+ghost use mathlib.Core.Path.{_≡_};
+ghost use Prim.Native.Nat.{_≤_};
+ghost use lib.ListN.{take};
+ghost use Rattle.text.specs.Command.{commandOf, named};
 use crate::named::with_five;
 use crate::named::with_four;
 use crate::named::with_none;
@@ -52,7 +56,9 @@ pub enum Command {
 }
 
 // A line without its line feed.
-pub fn parse(line: &[u8]) -> Command {
+pub fn parse(line: &[u8]) -> Command
+    ensures { λ r. ⌜ r ≡ commandOf (now (line .entry)) ⌝ }
+{
     if line.len() == 0 {
         return Command::Blank;
     }
@@ -73,7 +79,10 @@ pub fn parse(line: &[u8]) -> Command {
 }
 
 // The command of a name and its numbers.
-fn named(name: &[u8], count: usize, n: [u64; 10]) -> Command {
+fn named(name: &[u8], count: usize, n: [u64; 10]) -> Command
+    requires { ⌜ count ≤ 10 ⌝ }
+    ensures { λ r. ⌜ r ≡ named (now (name .entry)) (take count n) ⌝ }
+{
     match count {
         0 => with_none(name),
         1 => with_one(name, n[0]),

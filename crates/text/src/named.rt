@@ -1,4 +1,11 @@
 // Commands by the number of words after their name. A number that its place cannot hold makes no command.
+ghost use mathlib.Core.Bool.{cond, not};
+ghost use mathlib.Core.List.{[], _∷_};
+ghost use mathlib.Core.Path.{_≡_};
+ghost use Prim.Native.Nat.{_^_, _<_, min};
+ghost use lib.ListN.{replicate};
+ghost use Rattle.rules.specs.Lent.{mark};
+ghost use Rattle.text.specs.Command.{named, fit, rowNumbers, KEY, OWNER, AMOUNT, TOKEN, SMALL, MARK};
 use crate::command::Command;
 use crate::command::Lengths;
 use crate::command::RowNumbers;
@@ -12,7 +19,9 @@ const MAX_U32: u64 = 4294967295;
 // The last mark's place.
 const LAST_MARK: u64 = 31;
 
-pub fn with_none(name: &[u8]) -> Command {
+pub fn with_none(name: &[u8]) -> Command
+    ensures { λ r. ⌜ r ≡ named (now (name .entry)) [] ⌝ }
+{
     if same(name, b"len") {
         return Command::Call(Call::Len);
     }
@@ -28,7 +37,9 @@ pub fn with_none(name: &[u8]) -> Command {
     Command::Error
 }
 
-pub fn with_one(name: &[u8], n: u64) -> Command {
+pub fn with_one(name: &[u8], n: u64) -> Command
+    ensures { λ r. ⌜ r ≡ named (now (name .entry)) (n ∷ []) ⌝ }
+{
     if same(name, b"rollback") {
         return Command::Call(Call::Rollback(n));
     }
@@ -47,10 +58,7 @@ pub fn with_one(name: &[u8], n: u64) -> Command {
     if n > MAX_U32 {
         return Command::Error;
     }
-    with_key(name, n as u32)
-}
-
-fn with_key(name: &[u8], key: u32) -> Command {
+    let key = n as u32;
     if same(name, b"find") {
         return Command::Call(Call::Find(key));
     }
@@ -69,7 +77,9 @@ fn with_key(name: &[u8], key: u32) -> Command {
     Command::Error
 }
 
-pub fn with_two(name: &[u8], a: u64, b: u64) -> Command {
+pub fn with_two(name: &[u8], a: u64, b: u64) -> Command
+    ensures { λ r. ⌜ r ≡ named (now (name .entry)) (a ∷ b ∷ []) ⌝ }
+{
     if a > MAX_U32 {
         return Command::Error;
     }
@@ -93,7 +103,9 @@ pub fn with_two(name: &[u8], a: u64, b: u64) -> Command {
     Command::Error
 }
 
-pub fn with_three(name: &[u8], key: u64, owner: u64, amount: u64) -> Command {
+pub fn with_three(name: &[u8], key: u64, owner: u64, amount: u64) -> Command
+    ensures { λ r. ⌜ r ≡ named (now (name .entry)) (key ∷ owner ∷ amount ∷ []) ⌝ }
+{
     if key > MAX_U32 {
         return Command::Error;
     }
@@ -106,7 +118,9 @@ pub fn with_three(name: &[u8], key: u64, owner: u64, amount: u64) -> Command {
     Command::Error
 }
 
-pub fn with_four(name: &[u8], a: u64, b: u64, c: u64, d: u64) -> Command {
+pub fn with_four(name: &[u8], a: u64, b: u64, c: u64, d: u64) -> Command
+    ensures { λ r. ⌜ r ≡ named (now (name .entry)) (a ∷ b ∷ c ∷ d ∷ []) ⌝ }
+{
     if same(name, b"set_state") {
         return set_state(a, b, c, d);
     }
@@ -116,7 +130,9 @@ pub fn with_four(name: &[u8], a: u64, b: u64, c: u64, d: u64) -> Command {
     Command::Error
 }
 
-fn set_state(count: u64, used: u64, open: u64, last: u64) -> Command {
+fn set_state(count: u64, used: u64, open: u64, last: u64) -> Command
+    ensures { λ r. ⌜ r ≡ cond (fit (count ∷ used ∷ «open» ∷ last ∷ []) (SMALL ∷ SMALL ∷ SMALL ∷ TOKEN ∷ [])) (Command.SetState count used «open» last) Command.Error ⌝ }
+{
     if count > MAX_U32 {
         return Command::Error;
     }
@@ -129,7 +145,9 @@ fn set_state(count: u64, used: u64, open: u64, last: u64) -> Command {
     Command::SetState(count as u32, used as u32, open as u32, last)
 }
 
-fn set_mark(i: u64, serial: u64, log_len: u64, keys: u64) -> Command {
+fn set_mark(i: u64, serial: u64, log_len: u64, keys: u64) -> Command
+    ensures { λ r. ⌜ r ≡ cond (fit (i ∷ serial ∷ «log_len» ∷ keys ∷ []) (MARK ∷ TOKEN ∷ SMALL ∷ SMALL ∷ [])) (Command.SetMark i (mark serial «log_len» keys)) Command.Error ⌝ }
+{
     if i > LAST_MARK {
         return Command::Error;
     }
@@ -147,14 +165,9 @@ fn set_mark(i: u64, serial: u64, log_len: u64, keys: u64) -> Command {
     Command::SetMark(i as u32, mark)
 }
 
-pub fn with_five(
-    name: &[u8],
-    key: u64,
-    parent: u64,
-    rank: u64,
-    owner: u64,
-    amount: u64,
-) -> Command {
+pub fn with_five(name: &[u8], key: u64, parent: u64, rank: u64, owner: u64, amount: u64) -> Command
+    ensures { λ r. ⌜ r ≡ named (now (name .entry)) (key ∷ parent ∷ rank ∷ owner ∷ amount ∷ []) ⌝ }
+{
     if !same(name, b"set_row") {
         return Command::Error;
     }
@@ -174,7 +187,9 @@ enum Narrowed {
     Row(RowNumbers),
 }
 
-fn row_numbers(parent: u64, rank: u64, owner: u64, amount: u64) -> Narrowed {
+fn row_numbers(parent: u64, rank: u64, owner: u64, amount: u64) -> Narrowed
+    ensures { λ r. ⌜ r ≡ cond (fit (parent ∷ rank ∷ owner ∷ amount ∷ []) (KEY ∷ SMALL ∷ OWNER ∷ AMOUNT ∷ [])) (Narrowed.Row (rowNumbers parent rank owner amount)) Narrowed.Wide ⌝ }
+{
     if parent > MAX_U32 {
         return Narrowed::Wide;
     }
@@ -202,7 +217,9 @@ pub fn with_seven(
     rank: u64,
     owner: u64,
     amount: u64,
-) -> Command {
+) -> Command
+    ensures { λ r. ⌜ r ≡ named (now (name .entry)) (i ∷ kind ∷ key ∷ parent ∷ rank ∷ owner ∷ amount ∷ []) ⌝ }
+{
     if !same(name, b"set_entry") {
         return Command::Error;
     }
@@ -222,7 +239,9 @@ pub fn with_seven(
     }
 }
 
-pub fn with_ten(name: &[u8], n: [u64; 10]) -> Command {
+pub fn with_ten(name: &[u8], n: [u64; 10]) -> Command
+    ensures { λ r. ⌜ r ≡ named (now (name .entry)) n ⌝ }
+{
     if !same(name, b"lend") {
         return Command::Error;
     }
@@ -245,7 +264,9 @@ pub fn with_ten(name: &[u8], n: [u64; 10]) -> Command {
 }
 
 // Whether one of ten numbers is no length.
-fn wide(n: [u64; 10]) -> bool {
+fn wide(n: [u64; 10]) -> bool
+    ensures { λ r. ⌜ r ≡ not (fit n (replicate 10 SMALL)) ⌝ }
+{
     let mut i = 0;
     while i < 10 {
         if n[i] > MAX_U32 {
@@ -257,7 +278,9 @@ fn wide(n: [u64; 10]) -> bool {
 }
 
 // A number as a length, where it is one.
-fn low(n: u64) -> u32 {
+fn low(n: u64) -> u32
+    ensures { λ r. ⌜ r ≡ min n 4294967295 ⌝ }
+{
     if n > MAX_U32 {
         return 4294967295;
     }

@@ -1,11 +1,11 @@
 // Numbers, answers, rows and entries, printed from place `at` of a buffer on. Each function answers the place after
 // what it wrote. The caller leaves room: no answer, row or entry is longer than `ROOM`.
 ghost use mathlib.Core.Path.{_≡_};
-ghost use Prim.Native.Nat.{_+_, _-_, _≤_, _<_};
+ghost use Prim.Native.Nat.{_+_, _≤_, _<_};
 ghost use lib.ListN.{length};
-ghost use lib.Seq.{paste};
-ghost use Rattle.io.specs.Digits.{digits, Fewest};
-ghost use Rattle.text.specs.Printed.{Wrote, Spelt};
+ghost use mathlib.Core.List.{[], _∷_, _++_};
+ghost use Rattle.text.specs.Bytes.{bytes as text};
+ghost use Rattle.text.specs.Printed.{Printed, Wrote, spell, listed, answerText, cellText, rowText, kindText, markText, stateText, errorText};
 use rules::call::Answer;
 use rules::table::Mark;
 use rules::table::State;
@@ -17,7 +17,7 @@ pub const ROOM: usize = 256;
 // One byte.
 pub fn put_byte(out: &mut [u8], at: usize, byte: u8) -> usize
     requires { ⌜ at < length (now out) ⌝ }
-    ensures { λ r. ⌜ r ≡ at + 1 ⌝ }
+    ensures { λ r. ⌜ Printed (now (out .entry)) (now (out .exit)) at (byte ∷ []) r ⌝ }
 {
     out[at] = byte;
     at + 1
@@ -26,8 +26,7 @@ pub fn put_byte(out: &mut [u8], at: usize, byte: u8) -> usize
 // Some bytes.
 pub fn put_bytes(out: &mut [u8], at: usize, bytes: &[u8]) -> usize
     requires { ⌜ at + length (now bytes) ≤ length (now out) ⌝ }
-    ensures { λ r. ⌜ r ≡ at + length (now (bytes .entry)) ⌝ }
-    ensures { λ r. ⌜ now (out .exit) ≡ paste (now (out .entry)) at (now (bytes .entry)) (length (now (bytes .entry))) ⌝ }
+    ensures { λ r. ⌜ Printed (now (out .entry)) (now (out .exit)) at (now (bytes .entry)) r ⌝ }
 {
     let mut i = 0;
     while i < bytes.len() {
@@ -40,7 +39,8 @@ pub fn put_bytes(out: &mut [u8], at: usize, bytes: &[u8]) -> usize
 // A number's decimal digits, the fewest that hold it.
 pub fn put_number(out: &mut [u8], at: usize, n: u64) -> usize
     requires { ⌜ at + 20 ≤ length (now out) ⌝ }
-    ensures { λ r. ⌜ Spelt (now (out .entry)) (now (out .exit)) at n r ⌝ }
+    ensures { λ r. ⌜ Printed (now (out .entry)) (now (out .exit)) at (spell n) r ⌝ }
+    ensures { λ r. ⌜ Wrote at 20 r ⌝ }
 {
     let mut digits = [0u8; 20];
     let count = io::decimal(n, &mut digits);
@@ -50,6 +50,7 @@ pub fn put_number(out: &mut [u8], at: usize, n: u64) -> usize
 // A blank and a number.
 pub fn put_next(out: &mut [u8], at: usize, n: u64) -> usize
     requires { ⌜ at + 21 ≤ length (now out) ⌝ }
+    ensures { λ r. ⌜ Printed (now (out .entry)) (now (out .exit)) at (listed (n ∷ [])) r ⌝ }
     ensures { λ r. ⌜ Wrote at 21 r ⌝ }
 {
     let next = put_byte(out, at, b' ');
@@ -59,6 +60,7 @@ pub fn put_next(out: &mut [u8], at: usize, n: u64) -> usize
 // Four numbers, a blank before each.
 fn put_four(out: &mut [u8], at: usize, a: u64, b: u64, c: u64, d: u64) -> usize
     requires { ⌜ at + 84 ≤ length (now out) ⌝ }
+    ensures { λ r. ⌜ Printed (now (out .entry)) (now (out .exit)) at (listed (a ∷ b ∷ c ∷ d ∷ [])) r ⌝ }
     ensures { λ r. ⌜ Wrote at 84 r ⌝ }
 {
     let second = put_next(out, at, a);
@@ -82,6 +84,7 @@ fn put_nine(
     to: u64,
 ) -> usize
     requires { ⌜ at + 256 ≤ length (now out) ⌝ }
+    ensures { λ r. ⌜ Printed (now (out .entry)) (now (out .exit)) at (spell no ++ listed (key ∷ token ∷ owner ∷ amount ∷ steps ∷ yes ∷ from ∷ to ∷ [])) r ⌝ }
     ensures { λ r. ⌜ Wrote at 256 r ⌝ }
 {
     let second = put_number(out, at, no);
@@ -92,6 +95,7 @@ fn put_nine(
 // An answer.
 pub fn put_answer(out: &mut [u8], at: usize, answer: Answer) -> usize
     requires { ⌜ at + 256 ≤ length (now out) ⌝ }
+    ensures { λ r. ⌜ Printed (now (out .entry)) (now (out .exit)) at (answerText answer) r ⌝ }
     ensures { λ r. ⌜ Wrote at 256 r ⌝ }
 {
     let held = answer.owner;
@@ -126,6 +130,7 @@ pub enum Cell {
 // A blank and a lent number, `-` where there is none.
 pub fn put_cell(out: &mut [u8], at: usize, cell: Cell) -> usize
     requires { ⌜ at + 21 ≤ length (now out) ⌝ }
+    ensures { λ r. ⌜ Printed (now (out .entry)) (now (out .exit)) at (cellText cell) r ⌝ }
     ensures { λ r. ⌜ Wrote at 21 r ⌝ }
 {
     match cell {
@@ -144,6 +149,7 @@ pub fn put_row(
     amount: Cell,
 ) -> usize
     requires { ⌜ at + 84 ≤ length (now out) ⌝ }
+    ensures { λ r. ⌜ Printed (now (out .entry)) (now (out .exit)) at (rowText parent rank owner amount) r ⌝ }
     ensures { λ r. ⌜ Wrote at 84 r ⌝ }
 {
     let second = put_cell(out, at, parent);
@@ -155,6 +161,7 @@ pub fn put_row(
 // ` |`, which parts rows, entries and marks.
 pub fn put_bar(out: &mut [u8], at: usize) -> usize
     requires { ⌜ at + 2 ≤ length (now out) ⌝ }
+    ensures { λ r. ⌜ Printed (now (out .entry)) (now (out .exit)) at (text " |") r ⌝ }
     ensures { λ r. ⌜ Wrote at 2 r ⌝ }
 {
     put_bytes(out, at, b" |")
@@ -163,6 +170,7 @@ pub fn put_bar(out: &mut [u8], at: usize) -> usize
 // The kind and the key of an entry, after a bar; its row follows.
 pub fn put_kind(out: &mut [u8], at: usize, kind: Cell, key: Cell) -> usize
     requires { ⌜ at + 44 ≤ length (now out) ⌝ }
+    ensures { λ r. ⌜ Printed (now (out .entry)) (now (out .exit)) at (kindText kind key) r ⌝ }
     ensures { λ r. ⌜ Wrote at 44 r ⌝ }
 {
     let first = put_bar(out, at);
@@ -173,6 +181,7 @@ pub fn put_kind(out: &mut [u8], at: usize, kind: Cell, key: Cell) -> usize
 // A mark, after a bar.
 pub fn put_mark(out: &mut [u8], at: usize, mark: Mark) -> usize
     requires { ⌜ at + 256 ≤ length (now out) ⌝ }
+    ensures { λ r. ⌜ Printed (now (out .entry)) (now (out .exit)) at (markText mark) r ⌝ }
     ensures { λ r. ⌜ Wrote at 256 r ⌝ }
 {
     let first = put_bar(out, at);
@@ -184,6 +193,7 @@ pub fn put_mark(out: &mut [u8], at: usize, mark: Mark) -> usize
 // The numbers of a state, and the word before the marks.
 pub fn put_state(out: &mut [u8], at: usize, state: State) -> usize
     requires { ⌜ at + 256 ≤ length (now out) ⌝ }
+    ensures { λ r. ⌜ Printed (now (out .entry)) (now (out .exit)) at (stateText state) r ⌝ }
     ensures { λ r. ⌜ Wrote at 256 r ⌝ }
 {
     let first = put_bytes(out, at, b" state");
@@ -202,6 +212,7 @@ pub fn put_state(out: &mut [u8], at: usize, state: State) -> usize
 // `error` and the line's number, with a line feed.
 pub fn put_error(out: &mut [u8], at: usize, line: u64) -> usize
     requires { ⌜ at + 256 ≤ length (now out) ⌝ }
+    ensures { λ r. ⌜ Printed (now (out .entry)) (now (out .exit)) at (errorText line) r ⌝ }
     ensures { λ r. ⌜ Wrote at 256 r ⌝ }
 {
     let number = put_bytes(out, at, b"error");

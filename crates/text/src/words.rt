@@ -1,7 +1,9 @@
 ghost use mathlib.Core.Path.{_≡_};
+ghost use mathlib.Core.Bool.{false};
 ghost use Prim.Native.Nat.{_≤_, _<_};
-ghost use lib.ListN.{length};
-ghost use Rattle.text.specs.Line.{Within};
+ghost use lib.ListN.{length, drop};
+ghost use Rattle.text.specs.Command.{given, numbersOf};
+ghost use Rattle.text.specs.Line.{Skipped, Spans, words};
 use crate::number::Number;
 use crate::number::read;
 use rules::numbers::MAX_U64;
@@ -12,7 +14,7 @@ pub const MOST: usize = 10;
 // The first place from `from` on that is no blank, or the line's end.
 pub fn skip_blanks(line: &[u8], from: usize) -> usize
     requires { ⌜ from ≤ length (now line) ⌝ }
-    ensures { λ r. ⌜ Within from r (length (now (line .entry))) ⌝ }
+    ensures { λ r. ⌜ Skipped (now (line .entry)) from r ⌝ }
 {
     let mut i = from;
     while i < line.len() {
@@ -27,8 +29,7 @@ pub fn skip_blanks(line: &[u8], from: usize) -> usize
 // The end of the word that begins at `start`: the next blank, or the line's end.
 pub fn word_end(line: &[u8], start: usize) -> usize
     requires { ⌜ start < length (now line) ⌝ }
-    ensures { λ r. ⌜ Within start r (length (now (line .entry))) ⌝ }
-    ensures { λ r. ⌜ start < r ⌝ }
+    ensures { λ r. ⌜ Spans (now (line .entry)) start r ⌝ }
 {
     let mut i = start + 1;
     while i < line.len() {
@@ -48,7 +49,10 @@ pub struct Given {
 }
 
 // What a line gives that cannot be a command.
-fn nothing_given() -> Given {
+fn nothing_given() -> Given
+    ensures { λ r. ⌜ r .good ≡ false ⌝ }
+    ensures { λ r. ⌜ r .count ≡ 0 ⌝ }
+{
     Given {
         good: false,
         count: 0,
@@ -59,6 +63,8 @@ fn nothing_given() -> Given {
 // All words from `from` on, read as numbers.
 pub fn numbers_from(line: &[u8], from: usize) -> Given
     requires { ⌜ from ≤ length (now line) ⌝ }
+    ensures { λ r. ⌜ given r ≡ numbersOf 10 (words (drop from (now (line .entry)))) ⌝ }
+    ensures { λ r. ⌜ r .count ≤ 10 ⌝ }
 {
     let mut numbers = [0u64; 10];
     let mut count = 0;

@@ -1,22 +1,34 @@
--- `named::wide` is safe and ends. Assumes nothing.
-use mathlib.Core.Path.{_≡_, refl, ap, sym, _∙_}
-use mathlib.Core.List.{List, [], _∷_}
-use Prim.Native.Nat.{ℕ, zero, suc, _+_, _*_, _-_, _/_, _≤_, _<_}
+-- `named::wide` meets its contract. Assumes nothing.
+use mathlib.Core.Path.{_≡_, refl, _∙_, ap}
+use Prim.Native.Nat.{_-_, _≤_}
 use native.Mathlib.Omega.{arith}
 use borrow.Author.Needs.{needs}
-use borrow.Author.Tests.{lt-ltb, le-ltb}
-use lib.ListN.{length, getD, take, drop, set, length-set}
+use mathlib.Core.Bool.{not}
+use lib.ListN.{length, drop, replicate}
+use Rattle.text.proofs.NamedLaws.{fit-end, fit-fails, fit-next}
+use Rattle.text.specs.Command.{fit, SMALL}
 use Rattle.text.proofs.named.wide.Statement.{statement}
 use Rattle.text.proofs.named.wide.Tie as tie
 
 abbrev Inv-loop : tie.InvT-loop
-Inv-loop n i₀ i = i ≤ 10
+Inv-loop n i₀ i = (i ≤ 10) × (fit n (replicate 10 SMALL) ≡ fit (drop i n) (replicate (10 - i) SMALL))
 
 abbrev μ-loop : tie.MeasureT-loop
 μ-loop n i₀ i = 10 - i
 
+loop-holds : tie.Need-loop-holds Inv-loop μ-loop
+loop-holds c = (omega arith, refl)
+
+returns : tie.Need-returns Inv-loop μ-loop
+returns c = let ten : length (c .before .before .before .args .t1) ≡ 10 = search needs in rw (c .before .before .loop .inv .1, fit-fails (c .before .before .before .args .t1) (c .before .before .loop .i) (omega arith) (omega arith) (omega arith))
+
+loop-again : tie.Need-loop-again Inv-loop μ-loop
+loop-again c = let ten : length (c .before .before .before .args .t1) ≡ 10 = search needs in (omega arith, c .before .before .loop .inv .1 ∙ fit-next (c .before .before .before .args .t1) (c .before .before .loop .i) (omega arith) (omega arith) (omega arith))
+
+returns-2 : tie.Need-returns-2 Inv-loop μ-loop
+returns-2 c = let ten : length (c .before .before .args .t1) ≡ 10 = search needs in rw (c .before .loop .inv .1, fit-end (c .before .before .args .t1) (c .before .loop .i) (omega arith))
+
 pub wide-spec : {M : Type 1} → statement M
 wide-spec =
     tie.close
-    (tie.spec Inv-loop μ-loop (search needs) (search needs) (search needs) (search needs) (search needs) (search needs) (search needs)
-    (search needs))
+    (tie.spec Inv-loop μ-loop loop-holds (search needs) (search needs) returns (search needs) (search needs) loop-again returns-2)

@@ -29,7 +29,7 @@ loop-again c = (
 )
 
 returns : tie.Need-returns Inv-loop μ-loop
-returns c = let e : c .before .loop .i ≡ length (c .before .before .args .bytes .now) = omega arith in (search needs, rw (← e) (c .before .loop .inv .2))
+returns c = let e : c .before .loop .i ≡ length (c .before .before .args .bytes .now) = omega arith in record { place = search needs; room = search needs; stands = rw (← e) (c .before .loop .inv .2) }
 
 pub put-bytes-spec : {M : Type 1} → statement M
 put-bytes-spec =

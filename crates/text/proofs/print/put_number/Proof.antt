@@ -1,8 +1,9 @@
--- `print::put_number` meets its contract. Assumes nothing.
-use Prim.Native.Nat.{ℕ, _+_, _^_, _≤_, _<_}
-use native.Mathlib.Omega.{arith}
+-- `print::put_number` meets its contract: what `io::decimal` writes is the spelling. Assumes nothing.
+use Prim.Native.Nat.{_^_, _<_}
+use Rattle.text.proofs.PrintLaws.{at-most-20, saying, some-digit, spelt, twenty-digits}
 use borrow.Author.Needs.{needs}
-use Rattle.text.proofs.PrintLaws.{at-most-20, spelt}
+use mathlib.Core.Path.{_∙_}
+use native.Mathlib.Omega.{arith}
 use Rattle.text.proofs.print.put_number.Statement.{statement}
 use Rattle.text.proofs.print.put_number.Tie as tie
 
@@ -13,8 +14,11 @@ put-bytes-requires c κs =
 
 returns : tie.Need-returns
 returns c =
-    let small : c .before .before .before .before .before .before .before .before .args .n < 2 ^ 64 = omega arith in
-    spelt _ _ _ _ _ _ _ small (c .before .before .before .before .before .decimal .ensures .1 .0) (c .before .before .before .before .before .decimal .ensures .1 .1) (c .before .before .before .before .before .decimal .ensures .0 .1) (c .before .before .put-bytes .ensures .0) (c .before .before .put-bytes .ensures .1)
+    let start = c .before .before .before .before .before .before .before .before in
+    let made = c .before .before .before .before .before .decimal .ensures in
+    let small : start .args .n < 2 ^ 64 = omega arith in
+    let printed = saying (made .1 .1 ∙ spelt _ _ small (made .1 .0)) (c .before .before .put-bytes .ensures) in
+    (printed, record { some = omega (arith, some-digit (start .args .n)); enough = omega (arith, twenty-digits (start .args .n)) })
 
 pub put-number-spec : {M : Type 1} → statement M
 put-number-spec =

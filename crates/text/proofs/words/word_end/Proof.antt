@@ -1,22 +1,52 @@
--- `words::word_end` meets its contract. Assumes nothing.
-use mathlib.Core.Path.{_≡_, refl, ap, sym, _∙_}
-use mathlib.Core.List.{List, [], _∷_}
-use Prim.Native.Nat.{ℕ, zero, suc, _+_, _*_, _-_, _/_, _≤_, _<_}
+-- `words::word_end` meets its contract: what was passed is the word so far. Assumes nothing.
+use mathlib.Core.Path.{_≡_, _∙_}
+use Prim.Native.Nat.{_-_, _≤_, _<_}
 use native.Mathlib.Omega.{arith}
 use borrow.Author.Needs.{needs}
-use borrow.Author.Tests.{lt-ltb, le-ltb}
-use lib.ListN.{length, getD, take, drop, set, length-set}
+use lib.ListN.{length, getD, drop}
+use Rattle.text.specs.Line.{BLANK, words, wordsAfter}
+use Rattle.text.proofs.LineLaws.{part, first-letter, past-letter, ends-line, ends-blank}
 use Rattle.text.proofs.words.word_end.Statement.{statement}
 use Rattle.text.proofs.words.word_end.Tie as tie
 
 abbrev Inv-loop : tie.InvT-loop
-Inv-loop line start i₀ i = (start < i) × (i ≤ length line)
+Inv-loop line start i₀ i =
+    (start < i) × (i ≤ length line)
+    × ((getD line start 0 ≡ BLANK → ⊥) → words (drop start line) ≡ wordsAfter (part line start i) (drop i line))
 
 abbrev μ-loop : tie.MeasureT-loop
 μ-loop line start i₀ i = length line - i
 
+loop-holds : tie.Need-loop-holds Inv-loop μ-loop
+loop-holds c = (omega arith, omega arith, first-letter (c .args .line .now) (c .args .start) (c .pre))
+
+returns : tie.Need-returns Inv-loop μ-loop
+returns c =
+    let head = c .before .before .before in
+    record {
+      some = omega arith;
+      inside = omega arith;
+      first = λ b. head .loop .inv .2 b ∙ ends-blank (head .before .args .line .now) (head .before .args .start) (head .loop .i) (omega arith) (omega arith) (omega arith) (c .if1 .taken);
+    }
+
+loop-again : tie.Need-loop-again Inv-loop μ-loop
+loop-again c =
+    let head = c .before .before .before in (
+      omega arith,
+      omega arith,
+      λ b. head .loop .inv .2 b ∙ past-letter (head .before .args .line .now) (head .before .args .start) (head .loop .i) (omega arith) (omega arith) (c .if1 .left),
+    )
+
+returns-2 : tie.Need-returns-2 Inv-loop μ-loop
+returns-2 c =
+    let head = c .before in
+    record {
+      some = omega arith;
+      inside = omega arith;
+      first = λ b. head .loop .inv .2 b ∙ ends-line (head .before .args .line .now) (head .before .args .start) (head .loop .i) (omega arith) (omega arith) (omega arith);
+    }
+
 pub word-end-spec : {M : Type 1} → statement M
 word-end-spec =
     tie.close
-    (tie.spec Inv-loop μ-loop (search needs) (search needs) (search needs) (search needs) (search needs) (search needs) (search needs)
-    (search needs))
+    (tie.spec Inv-loop μ-loop (search needs) loop-holds (search needs) returns (search needs) (search needs) loop-again returns-2)

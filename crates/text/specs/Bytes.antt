@@ -1,0 +1,19 @@
+-- Text as bytes.
+use mathlib.Core.Bool.{Bool, true, false, _&&_}
+use mathlib.Core.List.{List, [], _∷_}
+use Prim.Native.Char.{code}
+use Prim.Native.Nat.{ℕ}
+use Prim.Native.String as text
+use Prim.Native.String.{String}
+use lib.Dec.{eqb}
+
+-- the bytes of an ASCII text
+abbrev pub bytes : String → List ℕ
+bytes text.[] = []
+bytes (text._∷_ c s) = code c ∷ bytes s
+
+unfoldable pub sameBytes : List ℕ → List ℕ → Bool
+sameBytes [] [] = true
+sameBytes (x ∷ xs) (y ∷ ys) = eqb x y && sameBytes xs ys
+sameBytes [] (y ∷ ys) = false
+sameBytes (x ∷ xs) [] = false
