@@ -163,15 +163,21 @@ fn lend(
         logowners,
         logamounts,
     );
+    lent_anew(lending, state)
+}
+
+// What other lengths leave of a state: a fresh table's, or what it was.
+fn lent_anew(lending: Lending, state: State) -> Changed {
+    let lengths = lending.new;
     if lending.fresh {
         return Changed {
-            lengths: new,
+            lengths,
             state: fresh(),
             reply: Reply::Table,
         };
     }
     Changed {
-        lengths: new,
+        lengths,
         state,
         reply: Reply::Ok,
     }
