@@ -36,3 +36,8 @@ pub use actions::{Actions, Row, UndoLog};
 pub use call::{Answer, Call, Key, Token, Value};
 pub use meter::Meter;
 pub use refusal::{NotCarriedOut, Refusal};
+
+/// The Rust of docs/LIBRARY.md, run as a test.
+#[cfg(doctest)]
+#[doc = include_str!("../../../docs/LIBRARY.md")]
+struct LibraryPage;
