@@ -27,8 +27,9 @@ SNAPSHOTS_LIMIT = 32
 _NUMBERS, _SERIALS, _CALL, _ANSWER = 67, 33, 4, 9
 _COUNT, _OPEN = 0, 2
 # The parts of a table after numbers and serials, in the order in which they are lent.
-_ROW_PARTS = {"parents": ctypes.c_uint32, "ranks": ctypes.c_uint32, "owners": ctypes.c_uint32, "amounts": ctypes.c_uint64}
-_LOG_PARTS = {"kinds": ctypes.c_uint32, "keys": ctypes.c_uint32} | _ROW_PARTS
+_u32, _u64 = ctypes.c_uint32, ctypes.c_uint64
+_ROW_PARTS = {"parents": _u32, "ranks": _u32, "owners": _u32, "amounts": _u64}
+_LOG_PARTS = {"kinds": _u32, "keys": _u32} | _ROW_PARTS
 (_NEW, _LEN, _FIND, _UNIONED, _JOIN, _POST, _PROBE, _PROBE_KEY, _TRY_PROBE,
  _SNAPSHOT, _ROLLBACK, _COMMIT, _KEYS, _ACTIONS, _CHANGES) = range(15)  # fmt: skip
 
@@ -191,8 +192,8 @@ class Meter:
     def __init__(self, rows, log):
         if not (0 <= rows <= ROWS_LIMIT and 0 <= log <= LOG_LIMIT):
             raise BadState
-        self._numbers = (ctypes.c_uint32 * _NUMBERS)()
-        self._serials = (ctypes.c_uint64 * _SERIALS)()
+        self._numbers = (_u32 * _NUMBERS)()
+        self._serials = (_u64 * _SERIALS)()
         self._rows = {part: (kind * rows)() for part, kind in _ROW_PARTS.items()}
         self._log = {part: (kind * log)() for part, kind in _LOG_PARTS.items()}
         parts = [self._numbers, self._serials, *self._rows.values(), *self._log.values()]
@@ -206,14 +207,14 @@ class Meter:
 
     def call(self, code, a=0, b=0, c=0):
         """Any call by its numbers. The whole answer, a refused one too."""
-        call, answer = _numbers((code, a, b, c)), (ctypes.c_uint64 * _ANSWER)()
+        call, answer = _numbers((code, a, b, c)), (_u64 * _ANSWER)()
         self._carry_out(_library.meter_call, call, answer)
         return Answer(*answer)
 
     def run(self, calls):
         """A list of calls, each of four numbers, in one go. A list of answers; a refused call doesn't stop it."""
         calls = [number for call in calls for number in call]
-        answers = (ctypes.c_uint64 * (_ANSWER * (len(calls) // _CALL)))()
+        answers = (_u64 * (_ANSWER * (len(calls) // _CALL)))()
         self._carry_out(_library.meter_calls, _numbers(calls), answers)
         return [Answer(*answers[at : at + _ANSWER]) for at in range(0, len(answers), _ANSWER)]
 
@@ -312,4 +313,4 @@ def _numbers(numbers):
     """As lent numbers. ctypes would cut a number to 64 bits in silence, so it is tested here."""
     if not all(0 <= number < 1 << 64 for number in numbers):
         raise NotCarriedOut(2)
-    return (ctypes.c_uint64 * len(numbers))(*numbers)
+    return (_u64 * len(numbers))(*numbers)

@@ -24,6 +24,10 @@ def table_t(log=0):
     return table
 
 
+def rows(table):
+    return [table.row(key) for key in range(len(table))]
+
+
 def refusal(no, steps=0):
     return Answer(no, 0, 0, 0, 0, steps, 0, 0, 0)
 
@@ -211,15 +215,16 @@ class Lists(unittest.TestCase):
             key, other, token = choose.randrange(26), choose.randrange(26), max(0, last - choose.choice((0, 0, 0, 1)))
             call = choose.choice((
                 (NEW, choose.randrange(3), choose.randrange(100), 0), (LEN, 0, 0, 0), (FIND, key, 0, 0),
-                (UNIONED, key, other, 0), (JOIN, key, other, 0), (POST, key, choose.randrange(3), choose.randrange(100)),
-                (PROBE, key, 0, 0), (PROBE_KEY, key, 0, 0), (TRY_PROBE, key, 0, 0), (SNAPSHOT, 0, 0, 0),
-                (ROLLBACK, token, 0, 0), (COMMIT, token, 0, 0), (KEYS, token, 0, 0), (ACTIONS, token, 0, 0),
-                (CHANGES, token, 0, 0)))  # fmt: skip
+                (UNIONED, key, other, 0), (JOIN, key, other, 0),
+                (POST, key, choose.randrange(3), choose.randrange(100)), (PROBE, key, 0, 0),
+                (PROBE_KEY, key, 0, 0), (TRY_PROBE, key, 0, 0), (SNAPSHOT, 0, 0, 0), (ROLLBACK, token, 0, 0),
+                (COMMIT, token, 0, 0), (KEYS, token, 0, 0), (ACTIONS, token, 0, 0), (CHANGES, token, 0, 0),
+            ))  # fmt: skip
             calls.append(call)
             answers.append(singly.call(*call))
             last = answers[-1].token or last
         self.assertEqual(together.run(calls), answers)
-        self.assertEqual([together.row(key) for key in range(len(together))], [singly.row(key) for key in range(len(singly))])
+        self.assertEqual(rows(together), rows(singly))
         self.assertLessEqual({0, 1, 2, 3, 4, 6, 11}, {answer.no for answer in answers})
 
     def test_an_empty_list(self):
