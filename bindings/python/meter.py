@@ -172,7 +172,7 @@ def _load():
     path = Path(os.environ.get("METER_LIBRARY", made))
     if not path.is_file():
         raise ImportError(f"no shared object at {path}: run bindings/build, or name it in METER_LIBRARY")
-    library = ctypes.CDLL(str(path))
+    library = ctypes.PyDLL(str(path))  # keeps the interpreter's lock: no two threads are in a table at once
     slices = 2 + len(_ROW_PARTS) + len(_LOG_PARTS) + 2
     for function in (library.meter_call, library.meter_calls):
         function.argtypes = [ctypes.c_void_p, ctypes.c_size_t] * slices
@@ -184,10 +184,7 @@ _library = _load()
 
 
 class Meter:
-    """A table that owns its memory: room for `rows` keys, and for `log` entries while a snapshot is open.
-
-    A meter may be used by one thread at a time.
-    """
+    """A table that owns its memory: room for `rows` keys, and for `log` entries while a snapshot is open."""
 
     def __init__(self, rows, log):
         if not (0 <= rows <= ROWS_LIMIT and 0 <= log <= LOG_LIMIT):
