@@ -1,0 +1,3 @@
+// What C and Rust link: the table's calls over lent numbers alone.
+pub mod calls;
+mod one;
