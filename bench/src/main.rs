@@ -1,5 +1,6 @@
 //! Times the meter against the crate ena on the same calls, in one process. `bench/run` builds and runs it, and
-//! docs/BENCHMARKS.md says what is measured and how. Writes a line of tab-separated figures for each work and size.
+//! docs/BENCHMARKS.md says what is measured and how. Writes a line of tab-separated figures for each work and size; an
+//! argument chooses one work by its name, for a profile.
 
 #[path = "../../bindings/rust/src/ffi.rs"]
 mod ffi;
@@ -25,10 +26,14 @@ fn main() {
     println!("memory\tstate\t{}\t", meter_side::state());
     println!("interface\t{:.2}", measure::interface());
     // Work by work, so that the sizes of one are timed right after each other.
+    let chosen = std::env::args().nth(1);
     let works = SIZES.map(work::all);
     for at in 0..works[0].len() {
         for (keys, works) in SIZES.into_iter().zip(&works) {
             let work = &works[at];
+            if chosen.as_ref().is_some_and(|name| *name != work.name) {
+                continue;
+            }
             let times = measure::measure(work, keys as usize);
             print(&work.name, keys, &times);
         }
