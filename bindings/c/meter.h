@@ -1,0 +1,205 @@
+/* The meter's table for C: link target/staticlib/libhost.a, or target/bindings/libmeter.so.
+ *
+ * The archive keeps no memory and allocates none. A table is twelve arrays that the caller owns and lends for the time
+ * of a call: two for the state, four for the rows, six for the log. docs/LIBRARY.md says more, with examples.
+ *
+ * Every pointer must be aligned for its type and must not be null, also where a length is 0; the arrays must not
+ * overlap; and no other thread may read or write them during a call. This is what the caller owes. Whatever the arrays
+ * hold, no call traps, loops for ever, or touches anything outside of them. */
+#ifndef METER_H
+#define METER_H
+
+#include <stddef.h>
+#include <stdint.h>
+
+#ifdef __cplusplus
+extern "C" {
+#endif
+
+/* Limits. A table with more rows or entries lent answers METER_BAD_STATE to every call. */
+enum { METER_ROWS_LIMIT = 65536, METER_LOG_LIMIT = 1048576, METER_SNAPSHOTS_LIMIT = 32 };
+
+/* Layout of the state. All zero is a fresh table; the rows and the log then may hold anything.
+ * numbers: count, used, open, and for each mark from the outermost on its log length and its keys.
+ * serials: the last serial given, and each mark's serial. */
+enum {
+  METER_NUMBERS = 67,
+  METER_SERIALS = 33,
+  METER_NUMBERS_COUNT = 0, /* live keys are 0 to count - 1 */
+  METER_NUMBERS_USED = 1,  /* entries of the log in use */
+  METER_NUMBERS_OPEN = 2,  /* open snapshots */
+  METER_NUMBERS_MARKS = 3, /* mark i has its log length here + 2 * i, its keys one further on */
+  METER_SERIALS_LAST = 0,
+  METER_SERIALS_MARKS = 1 /* mark i has its serial here + i */
+};
+
+/* Kinds of log entries. */
+enum {
+  METER_ENTRY_NEW = 1,    /* a new key; the entry's row is 0 */
+  METER_ENTRY_CHANGED = 2 /* a changed row, as it was before */
+};
+
+/* A call is four numbers: a code, then a, b and c as named here. Numbers that are not named are 0.
+ * Keys and owners are below 2^32; owner 0 is none. Amounts and tokens are any 64 bits. */
+enum {
+  METER_CALL_NUMBERS = 4,
+  METER_CODE_NEW = 0,       /* owner, amount */
+  METER_CODE_LEN = 1,       /* */
+  METER_CODE_FIND = 2,      /* key */
+  METER_CODE_UNIONED = 3,   /* key, key */
+  METER_CODE_JOIN = 4,      /* key, key */
+  METER_CODE_POST = 5,      /* key, owner, amount */
+  METER_CODE_PROBE = 6,     /* key */
+  METER_CODE_PROBE_KEY = 7, /* key */
+  METER_CODE_TRY_PROBE = 8, /* key */
+  METER_CODE_SNAPSHOT = 9,  /* */
+  METER_CODE_ROLLBACK = 10, /* token */
+  METER_CODE_COMMIT = 11,   /* token */
+  METER_CODE_KEYS = 12,     /* token */
+  METER_CODE_ACTIONS = 13,  /* token */
+  METER_CODE_CHANGES = 14   /* token */
+};
+
+/* An answer is nine numbers. Those that a call doesn't name are 0. */
+enum {
+  METER_ANSWER_NUMBERS = 9,
+  METER_ANSWER_NO = 0,     /* METER_DONE or the number of refusal */
+  METER_ANSWER_KEY = 1,    /* new: the key; find, probe_key: the root */
+  METER_ANSWER_TOKEN = 2,  /* snapshot: the token */
+  METER_ANSWER_OWNER = 3,  /* probe, probe_key: the group's; try_probe: the row's, where it is a root */
+  METER_ANSWER_AMOUNT = 4, /* as the owner */
+  METER_ANSWER_STEPS = 5,  /* find, unioned, join, post, probe, probe_key: redirects followed */
+  METER_ANSWER_YES = 6,    /* unioned, changes: yes or no; try_probe: whether there is a value */
+  METER_ANSWER_FROM = 7,   /* keys, actions: where the range begins */
+  METER_ANSWER_TO = 8      /* keys, actions: its end, not in it; len: the count */
+};
+
+/* Refusals of a call, in its answer. 4 and 5 report steps and keep the walks' rewrites; every other refusal leaves
+ * rows, log and state untouched. */
+enum {
+  METER_DONE = 0,
+  METER_NO_KEY = 1,         /* a named key is not below the count */
+  METER_KEYS_FULL = 2,      /* new: all lent rows are live */
+  METER_LOG_FULL = 3,       /* a snapshot is open and the call's entries don't fit */
+  METER_OWNER_CLASH = 4,    /* two different named owners */
+  METER_TOO_MUCH = 5,       /* a sum above 18446744073709551615 */
+  METER_NOT_INNERMOST = 6,  /* rollback, commit: not the token of the innermost open snapshot */
+  METER_TOO_DEEP = 7,       /* snapshot: 32 are open */
+  METER_BROKEN_TABLE = 8,   /* damaged memory: parents, ranks, marks or entries that no table has */
+  METER_BAD_STATE = 9,      /* above the limits, parts of unequal length, or a state that is none */
+  METER_SERIALS_SPENT = 10, /* snapshot: the last serial is 18446744073709551615 */
+  METER_NOT_OPEN = 11       /* keys, actions, changes: no open snapshot has the token */
+};
+
+/* What the two functions return, tested in this order. After any but METER_CARRIED_OUT nothing at all was written. */
+enum {
+  METER_CARRIED_OUT = 0, /* every call was; each one's own refusal stands in its answer */
+  METER_NO_STATE = 1,    /* numbers is not 67 long, or serials not 33 */
+  METER_NO_CALL = 2,     /* a length that is no call's or no list's, or four numbers that are no call */
+  METER_NO_ROOM = 3      /* fewer than nine numbers of room for each answer */
+};
+
+/* Carries out one call: call_len is 4, and the answer's first nine numbers are written. Lengths are in elements. */
+uint32_t meter_call(uint32_t *numbers, size_t numbers_len, uint64_t *serials, size_t serials_len, uint32_t *parents,
+                    size_t parents_len, uint32_t *ranks, size_t ranks_len, uint32_t *owners, size_t owners_len,
+                    uint64_t *amounts, size_t amounts_len, uint32_t *logkinds, size_t logkinds_len, uint32_t *logkeys,
+                    size_t logkeys_len, uint32_t *logparents, size_t logparents_len, uint32_t *logranks,
+                    size_t logranks_len, uint32_t *logowners, size_t logowners_len, uint64_t *logamounts,
+                    size_t logamounts_len, const uint64_t *call, size_t call_len, uint64_t *answer, size_t answer_len);
+
+/* Carries out a list: calls_len is 4 for each call, and nine numbers are written for each, one after the other. The
+ * whole list is tested before its first call is carried out. A refused call doesn't stop the list. */
+uint32_t meter_calls(uint32_t *numbers, size_t numbers_len, uint64_t *serials, size_t serials_len, uint32_t *parents,
+                     size_t parents_len, uint32_t *ranks, size_t ranks_len, uint32_t *owners, size_t owners_len,
+                     uint64_t *amounts, size_t amounts_len, uint32_t *logkinds, size_t logkinds_len, uint32_t *logkeys,
+                     size_t logkeys_len, uint32_t *logparents, size_t logparents_len, uint32_t *logranks,
+                     size_t logranks_len, uint32_t *logowners, size_t logowners_len, uint64_t *logamounts,
+                     size_t logamounts_len, const uint64_t *calls, size_t calls_len, uint64_t *answers,
+                     size_t answers_len);
+
+/* The twelve arrays of a table in one place: `rows` elements in each row part, `log` in each log part. */
+struct meter_table {
+  uint32_t *numbers; /* METER_NUMBERS */
+  uint64_t *serials; /* METER_SERIALS */
+  size_t rows;
+  uint32_t *parents, *ranks, *owners;
+  uint64_t *amounts;
+  size_t log;
+  uint32_t *logkinds, *logkeys, *logparents, *logranks, *logowners;
+  uint64_t *logamounts;
+};
+
+#define METER_LEND(t)                                                                                       \
+  (t)->numbers, METER_NUMBERS, (t)->serials, METER_SERIALS, (t)->parents, (t)->rows, (t)->ranks, (t)->rows, \
+      (t)->owners, (t)->rows, (t)->amounts, (t)->rows, (t)->logkinds, (t)->log, (t)->logkeys, (t)->log,     \
+      (t)->logparents, (t)->log, (t)->logranks, (t)->log, (t)->logowners, (t)->log, (t)->logamounts, (t)->log
+
+/* One call on a table: four numbers in, nine out. */
+static inline uint32_t meter_ask(const struct meter_table *t, const uint64_t *call, uint64_t *answer) {
+  return meter_call(METER_LEND(t), call, METER_CALL_NUMBERS, answer, METER_ANSWER_NUMBERS);
+}
+
+/* A list of `n` calls on a table: 4 * n numbers in, 9 * n out. */
+static inline uint32_t meter_ask_all(const struct meter_table *t, const uint64_t *calls, size_t n, uint64_t *answers) {
+  return meter_calls(METER_LEND(t), calls, METER_CALL_NUMBERS * n, answers, METER_ANSWER_NUMBERS * n);
+}
+
+/* The four numbers of each call, written to `call`. */
+static inline void meter_put(uint64_t *call, uint64_t code, uint64_t a, uint64_t b, uint64_t c) {
+  call[0] = code;
+  call[1] = a;
+  call[2] = b;
+  call[3] = c;
+}
+
+static inline void meter_put_new(uint64_t *call, uint32_t owner, uint64_t amount) {
+  meter_put(call, METER_CODE_NEW, owner, amount, 0);
+}
+
+static inline void meter_put_len(uint64_t *call) { meter_put(call, METER_CODE_LEN, 0, 0, 0); }
+
+static inline void meter_put_find(uint64_t *call, uint32_t key) { meter_put(call, METER_CODE_FIND, key, 0, 0); }
+
+static inline void meter_put_unioned(uint64_t *call, uint32_t a, uint32_t b) {
+  meter_put(call, METER_CODE_UNIONED, a, b, 0);
+}
+
+static inline void meter_put_join(uint64_t *call, uint32_t a, uint32_t b) { meter_put(call, METER_CODE_JOIN, a, b, 0); }
+
+static inline void meter_put_post(uint64_t *call, uint32_t key, uint32_t owner, uint64_t amount) {
+  meter_put(call, METER_CODE_POST, key, owner, amount);
+}
+
+static inline void meter_put_probe(uint64_t *call, uint32_t key) { meter_put(call, METER_CODE_PROBE, key, 0, 0); }
+
+static inline void meter_put_probe_key(uint64_t *call, uint32_t key) {
+  meter_put(call, METER_CODE_PROBE_KEY, key, 0, 0);
+}
+
+static inline void meter_put_try_probe(uint64_t *call, uint32_t key) {
+  meter_put(call, METER_CODE_TRY_PROBE, key, 0, 0);
+}
+
+static inline void meter_put_snapshot(uint64_t *call) { meter_put(call, METER_CODE_SNAPSHOT, 0, 0, 0); }
+
+static inline void meter_put_rollback(uint64_t *call, uint64_t token) {
+  meter_put(call, METER_CODE_ROLLBACK, token, 0, 0);
+}
+
+static inline void meter_put_commit(uint64_t *call, uint64_t token) { meter_put(call, METER_CODE_COMMIT, token, 0, 0); }
+
+static inline void meter_put_keys(uint64_t *call, uint64_t token) { meter_put(call, METER_CODE_KEYS, token, 0, 0); }
+
+static inline void meter_put_actions(uint64_t *call, uint64_t token) {
+  meter_put(call, METER_CODE_ACTIONS, token, 0, 0);
+}
+
+static inline void meter_put_changes(uint64_t *call, uint64_t token) {
+  meter_put(call, METER_CODE_CHANGES, token, 0, 0);
+}
+
+#ifdef __cplusplus
+}
+#endif
+
+#endif

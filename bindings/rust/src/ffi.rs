@@ -1,0 +1,114 @@
+//! The archive's two functions, over memory that Rust owns. No other module has unsafe code.
+#![allow(unsafe_code)]
+
+pub const NUMBERS: usize = 67;
+pub const SERIALS: usize = 33;
+pub const CALL: usize = 4;
+pub const ANSWER: usize = 9;
+
+/// What a table is lent: the state, the rows and the log. All zero is a fresh table.
+#[derive(Clone, Debug)]
+pub struct Memory {
+    pub numbers: [u32; NUMBERS],
+    pub serials: [u64; SERIALS],
+    pub parents: Vec<u32>,
+    pub ranks: Vec<u32>,
+    pub owners: Vec<u32>,
+    pub amounts: Vec<u64>,
+    pub logkinds: Vec<u32>,
+    pub logkeys: Vec<u32>,
+    pub logparents: Vec<u32>,
+    pub logranks: Vec<u32>,
+    pub logowners: Vec<u32>,
+    pub logamounts: Vec<u64>,
+}
+
+macro_rules! exported {
+    ($parameters:tt) => {
+        /// What the archive exports: fourteen slices, each as a pointer and a length in elements, to a number.
+        pub type Exported = unsafe extern "C" fn $parameters -> u32;
+
+        extern "C" {
+            fn meter_call $parameters -> u32;
+            fn meter_calls $parameters -> u32;
+        }
+    };
+}
+
+exported!((
+    numbers: *mut u32, numbers_len: usize,
+    serials: *mut u64, serials_len: usize,
+    parents: *mut u32, parents_len: usize,
+    ranks: *mut u32, ranks_len: usize,
+    owners: *mut u32, owners_len: usize,
+    amounts: *mut u64, amounts_len: usize,
+    logkinds: *mut u32, logkinds_len: usize,
+    logkeys: *mut u32, logkeys_len: usize,
+    logparents: *mut u32, logparents_len: usize,
+    logranks: *mut u32, logranks_len: usize,
+    logowners: *mut u32, logowners_len: usize,
+    logamounts: *mut u64, logamounts_len: usize,
+    calls: *const u64, calls_len: usize,
+    answers: *mut u64, answers_len: usize,
+));
+
+impl Memory {
+    pub fn fresh(rows: usize, log: usize) -> Memory {
+        Memory {
+            numbers: [0; NUMBERS],
+            serials: [0; SERIALS],
+            parents: vec![0; rows],
+            ranks: vec![0; rows],
+            owners: vec![0; rows],
+            amounts: vec![0; rows],
+            logkinds: vec![0; log],
+            logkeys: vec![0; log],
+            logparents: vec![0; log],
+            logranks: vec![0; log],
+            logowners: vec![0; log],
+            logamounts: vec![0; log],
+        }
+    }
+
+    /// One call. What is returned is 0 where it was carried out.
+    #[inline]
+    pub fn call(&mut self, call: &[u64], answer: &mut [u64]) -> u32 {
+        // SAFETY: the archive's function is proved to stay within the slices, whatever they hold.
+        unsafe { self.lend(meter_call, call, answer) }
+    }
+
+    /// A list of calls. What is returned is 0 where it was carried out.
+    #[inline]
+    pub fn calls(&mut self, calls: &[u64], answers: &mut [u64]) -> u32 {
+        // SAFETY: as for `call`.
+        unsafe { self.lend(meter_calls, calls, answers) }
+    }
+
+    /// Lends everything to a function. Each pointer is that of a slice with that slice's own length, so it is aligned,
+    /// not null and valid for so many elements. What can be written is borrowed by `&mut`, hence apart from the rest
+    /// and used by nobody else meanwhile.
+    ///
+    /// # Safety
+    ///
+    /// The function must stay within the slices, write only to those that are `*mut`, and keep no pointer.
+    #[inline(always)]
+    #[rustfmt::skip] // a slice a line
+    pub unsafe fn lend(&mut self, function: Exported, calls: &[u64], answers: &mut [u64]) -> u32 {
+        function(
+            self.numbers.as_mut_ptr(), self.numbers.len(),
+            self.serials.as_mut_ptr(), self.serials.len(),
+            self.parents.as_mut_ptr(), self.parents.len(),
+            self.ranks.as_mut_ptr(), self.ranks.len(),
+            self.owners.as_mut_ptr(), self.owners.len(),
+            self.amounts.as_mut_ptr(), self.amounts.len(),
+            self.logkinds.as_mut_ptr(), self.logkinds.len(),
+            self.logkeys.as_mut_ptr(), self.logkeys.len(),
+            self.logparents.as_mut_ptr(), self.logparents.len(),
+            self.logranks.as_mut_ptr(), self.logranks.len(),
+            self.logowners.as_mut_ptr(), self.logowners.len(),
+            self.logamounts.as_mut_ptr(), self.logamounts.len(),
+            calls.as_ptr(), calls.len(),
+            answers.as_mut_ptr(), answers.len(),
+        )
+    }
+}
