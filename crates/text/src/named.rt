@@ -5,7 +5,7 @@ ghost use mathlib.Core.Path.{_≡_};
 ghost use Prim.Native.Nat.{_^_, _<_, min};
 ghost use lib.ListN.{replicate};
 ghost use Rattle.rules.specs.Lent.{mark};
-ghost use Rattle.text.specs.Command.{named, fit, rowNumbers, KEY, OWNER, AMOUNT, TOKEN, SMALL, MARK};
+ghost use Rattle.text.specs.Command.{named, fit, rowNumbers, NoToken, KEY, OWNER, AMOUNT, TOKEN, SMALL, MARK};
 use crate::command::Command;
 use crate::command::Lengths;
 use crate::command::RowNumbers;
@@ -55,6 +55,14 @@ pub fn with_one(name: &[u8], n: u64) -> Command
     if same(name, b"changes") {
         return Command::Call(Call::Changes(n));
     }
+    with_key(name, n)
+}
+
+// The commands of a key. The caller has seen that the name is none of a token's.
+fn with_key(name: &[u8], n: u64) -> Command
+    requires { ⌜ NoToken (now name) ⌝ }
+    ensures { λ r. ⌜ r ≡ named (now (name .entry)) (n ∷ []) ⌝ }
+{
     if n > MAX_U32 {
         return Command::Error;
     }
