@@ -49,11 +49,11 @@ use Rattle.text.specs.declared.named.Narrowed.the-variants as narrowed
 
 -- ---- tests
 
-both : (x y : Bool) → x && y ≡ true → (x ≡ true) × (y ≡ true)
+pub both : (x y : Bool) → x && y ≡ true → (x ≡ true) × (y ≡ true)
 both true y e = (refl, e)
 both false y e = absurd (let z : _≡_ {A = ℕ} 0 1 = cc in omega arith)
 
-same-bytes : (xs ys : List ℕ) → sameBytes xs ys ≡ true → xs ≡ ys
+pub same-bytes : (xs ys : List ℕ) → sameBytes xs ys ≡ true → xs ≡ ys
 unfolding sameBytes
 same-bytes [] [] e = refl
 same-bytes (x ∷ xs) (y ∷ ys) e =
