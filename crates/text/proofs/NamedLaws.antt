@@ -287,15 +287,31 @@ module _ (name : List ℕ) where
     unfolding chosen forms sameBytes
     said-lend e f l0 l1 l2 l3 l4 l5 l6 l7 l8 l9 m0 m1 m2 m3 m4 m5 m6 m7 m8 m9 =
         let cut : (i l : ℕ) → i < 10 → l ≡ min (getD ns i 0) 4294967295 → l ≡ getD ns i 0 = λ i l. whole ns i l f in
-        rw (cut 0 l0 (omega arith) m0, cut 1 l1 (omega arith) m1, cut 2 l2 (omega arith) m2, cut 3 l3 (omega arith) m3, cut 4 l4 (omega arith) m4, cut 5 l5 (omega arith) m5, cut 6 l6 (omega arith) m6, cut 7 l7 (omega arith) m7, cut 8 l8 (omega arith) m8, cut 9 l9 (omega arith) m9, ten, e, f)
+        rw (
+          cut 0 l0 (omega arith) m0,
+          cut 1 l1 (omega arith) m1,
+          cut 2 l2 (omega arith) m2,
+          cut 3 l3 (omega arith) m3,
+          cut 4 l4 (omega arith) m4,
+          cut 5 l5 (omega arith) m5,
+          cut 6 l6 (omega arith) m6,
+          cut 7 l7 (omega arith) m7,
+          cut 8 l8 (omega arith) m8,
+          cut 9 l9 (omega arith) m9,
+          ten,
+          e,
+          f,
+        )
 
   -- none: no form with so many numbers has the name, or a number is too wide for each form that might have it
 
-  pub no-name-0 : sameBytes name (bytes "len") ≡ false → sameBytes name (bytes "snapshot") ≡ false → sameBytes name (bytes "live") ≡ false → sameBytes name (bytes "dump") ≡ false → Error ≡ named name []
+  pub no-name-0 : sameBytes name (bytes "len") ≡ false → sameBytes name (bytes "snapshot") ≡ false
+      → sameBytes name (bytes "live") ≡ false → sameBytes name (bytes "dump") ≡ false → Error ≡ named name []
   unfolding chosen forms
   no-name-0 e0 e1 e2 e3 = rw (e0, e1, e2, e3)
 
-  pub no-name-2 : (a b : ℕ) → sameBytes name (bytes "new") ≡ false → sameBytes name (bytes "join") ≡ false → sameBytes name (bytes "unioned") ≡ false → sameBytes name (bytes "table") ≡ false → Error ≡ named name (a ∷ b ∷ [])
+  pub no-name-2 : (a b : ℕ) → sameBytes name (bytes "new") ≡ false → sameBytes name (bytes "join") ≡ false
+      → sameBytes name (bytes "unioned") ≡ false → sameBytes name (bytes "table") ≡ false → Error ≡ named name (a ∷ b ∷ [])
   unfolding chosen forms
   no-name-2 a b e0 e1 e2 e3 = rw (e0, e1, e2, e3)
 
@@ -303,7 +319,8 @@ module _ (name : List ℕ) where
   unfolding chosen forms
   no-name-3 k o a e0 = rw (e0)
 
-  pub no-name-4 : (a b c d : ℕ) → sameBytes name (bytes "set_state") ≡ false → sameBytes name (bytes "set_mark") ≡ false → Error ≡ named name (a ∷ b ∷ c ∷ d ∷ [])
+  pub no-name-4 : (a b c d : ℕ) → sameBytes name (bytes "set_state") ≡ false → sameBytes name (bytes "set_mark") ≡ false
+      → Error ≡ named name (a ∷ b ∷ c ∷ d ∷ [])
   unfolding chosen forms
   no-name-4 a b c d e0 e1 = rw (e0, e1)
 
@@ -316,7 +333,9 @@ module _ (name : List ℕ) where
   no-name-7 i t k p r o a e0 = rw (e0)
 
   module _ (n : ℕ) (no-token : NoToken name) where
-    pub no-name-1 : sameBytes name (bytes "find") ≡ false → sameBytes name (bytes "probe") ≡ false → sameBytes name (bytes "probe_key") ≡ false → sameBytes name (bytes "try_probe") ≡ false → sameBytes name (bytes "row") ≡ false → Error ≡ named name (n ∷ [])
+    pub no-name-1 : sameBytes name (bytes "find") ≡ false → sameBytes name (bytes "probe") ≡ false
+        → sameBytes name (bytes "probe_key") ≡ false → sameBytes name (bytes "try_probe") ≡ false
+        → sameBytes name (bytes "row") ≡ false → Error ≡ named name (n ∷ [])
     unfolding chosen forms
     no-name-1 e0 e1 e2 e3 e4 =
         rw (no-token .rollback, no-token .commit, no-token .keys, no-token .actions, no-token .changes, e0, e1, e2, e3, e4)

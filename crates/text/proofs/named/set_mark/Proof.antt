@@ -14,17 +14,34 @@ returns c =
 returns-2 : tie.Need-returns-2
 returns-2 c =
     let start = c .before .before in
-    rw (lt-ltb (start .args .i) (32) (omega arith), lt-ltb (start .args .serial) (2 ^ 64) (omega arith), le-ltb (start .args .log-len) (2 ^ 32) (omega arith))
+    rw (
+      lt-ltb (start .args .i) (32) (omega arith),
+      lt-ltb (start .args .serial) (2 ^ 64) (omega arith),
+      le-ltb (start .args .log-len)
+          (2 ^ 32) (omega arith),
+    )
 
 returns-3 : tie.Need-returns-3
 returns-3 c =
     let start = c .before .before .before in
-    rw (lt-ltb (start .args .i) (32) (omega arith), lt-ltb (start .args .serial) (2 ^ 64) (omega arith), lt-ltb (start .args .log-len) (2 ^ 32) (omega arith), le-ltb (start .args .keys) (2 ^ 32) (omega arith))
+    rw (
+      lt-ltb (start .args .i) (32) (omega arith),
+      lt-ltb (start .args .serial) (2 ^ 64) (omega arith),
+      lt-ltb (start .args .log-len)
+          (2 ^ 32) (omega arith),
+      le-ltb (start .args .keys) (2 ^ 32) (omega arith),
+    )
 
 returns-4 : tie.Need-returns-4
 returns-4 c =
     let start = c .before .before .before in
-    rw (lt-ltb (start .args .i) (32) (omega arith), lt-ltb (start .args .serial) (2 ^ 64) (omega arith), lt-ltb (start .args .log-len) (2 ^ 32) (omega arith), lt-ltb (start .args .keys) (2 ^ 32) (omega arith))
+    rw (
+      lt-ltb (start .args .i) (32) (omega arith),
+      lt-ltb (start .args .serial) (2 ^ 64) (omega arith),
+      lt-ltb (start .args .log-len)
+          (2 ^ 32) (omega arith),
+      lt-ltb (start .args .keys) (2 ^ 32) (omega arith),
+    )
 
 pub set-mark-spec : {M : Type 1} → statement M
 set-mark-spec =

@@ -18,13 +18,15 @@ returns-3 c =
     let named = row .before .before in
     let start = named .before .before .before .before in
     wide-5 _ _ _ _ _ _ (named .before .same .ensures .0 (not-false _ (named .if1 .left))) (omega arith)
-    (too-wide _ (start .args .parent) (start .args .rank) (start .args .owner) (start .args .amount) (row .row-numbers .ensures) (c .enum-told .given .1))
+    (too-wide _ (start .args .parent) (start .args .rank) (start .args .owner) (start .args .amount) (row .row-numbers .ensures)
+    (c .enum-told .given .1))
 
 returns-4 : tie.Need-returns-4
 returns-4 c =
     let row = c .before .before .before in
     let named = row .before .before in
-    said-set-row _ _ _ _ _ _ (named .before .same .ensures .0 (not-false _ (named .if1 .left))) (omega arith) _ (narrow _ _ _ _ _ (row .row-numbers .ensures) _ (c .before .numbers .given .1))
+    said-set-row _ _ _ _ _ _ (named .before .same .ensures .0 (not-false _ (named .if1 .left)))
+    (omega arith) _ (narrow _ _ _ _ _ (row .row-numbers .ensures) _ (c .before .numbers .given .1))
 
 pub with-five-spec : {M : Type 1} → statement M
 with-five-spec =

@@ -30,7 +30,8 @@ returns-7 c =
     let second = third .before .before .before in
     let first = second .before .before .before in
     let start = first .before .before .before .before .before in
-    no-name-1 _ _ (start .pre) (missed (first .before .same .ensures) (first .if2 .left)) (missed (second .before .same2 .ensures) (second .if3 .left)) (missed (third .before .same3 .ensures) (third .if4 .left))
+    no-name-1 _ _ (start .pre) (missed (first .before .same .ensures) (first .if2 .left)) (missed (second .before .same2 .ensures)
+    (second .if3 .left)) (missed (third .before .same3 .ensures) (third .if4 .left))
     (missed (fourth .before .same4 .ensures) (fourth .if5 .left)) (missed (c .before .same5 .ensures) (c .if6 .left))
 
 pub with-key-spec : {M : Type 1} → statement M

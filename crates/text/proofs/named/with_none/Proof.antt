@@ -21,7 +21,8 @@ returns-5 c =
     let third = c .before .before .before in
     let second = third .before .before .before in
     let first = second .before .before .before in
-    no-name-0 _ (missed (first .before .same .ensures) (first .if1 .left)) (missed (second .before .same2 .ensures) (second .if2 .left)) (missed (third .before .same3 .ensures) (third .if3 .left))
+    no-name-0 _ (missed (first .before .same .ensures) (first .if1 .left)) (missed (second .before .same2 .ensures)
+    (second .if2 .left)) (missed (third .before .same3 .ensures) (third .if3 .left))
     (missed (c .before .same4 .ensures) (c .if4 .left))
 
 pub with-none-spec : {M : Type 1} → statement M

@@ -24,13 +24,15 @@ returns-5 c =
     let named = row .before .before .before .before in
     let start = named .before .before .before .before in
     wide-7 _ _ _ _ _ _ _ _ (named .before .same .ensures .0 (not-false _ (named .if1 .left))) (omega arith) (omega arith) (omega arith)
-    (too-wide _ (start .args .parent) (start .args .rank) (start .args .owner) (start .args .amount) (row .row-numbers .ensures) (c .enum-told .given .1))
+    (too-wide _ (start .args .parent) (start .args .rank) (start .args .owner) (start .args .amount) (row .row-numbers .ensures)
+    (c .enum-told .given .1))
 
 returns-6 : tie.Need-returns-6
 returns-6 c =
     let row = c .before .before .before in
     let named = row .before .before .before .before in
-    said-set-entry _ _ _ _ _ _ _ _ (named .before .same .ensures .0 (not-false _ (named .if1 .left))) (omega arith) (omega arith) (omega arith) _ (narrow _ _ _ _ _ (row .row-numbers .ensures) _ (c .before .numbers .given .1))
+    said-set-entry _ _ _ _ _ _ _ _ (named .before .same .ensures .0 (not-false _ (named .if1 .left))) (omega arith) (omega arith)
+    (omega arith) _ (narrow _ _ _ _ _ (row .row-numbers .ensures) _ (c .before .numbers .given .1))
 
 pub with-seven-spec : {M : Type 1} → statement M
 with-seven-spec =

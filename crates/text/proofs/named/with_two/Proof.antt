@@ -28,7 +28,8 @@ returns-7 c =
     let third = c .before .before .before in
     let second = third .before .before .before in
     let first = second .before .before .before .before in
-    no-name-2 _ _ _ (missed (first .before .same .ensures) (first .if2 .left)) (missed (second .before .same2 .ensures) (second .if4 .left)) (missed (third .before .same3 .ensures) (third .if5 .left))
+    no-name-2 _ _ _ (missed (first .before .same .ensures) (first .if2 .left)) (missed (second .before .same2 .ensures)
+    (second .if4 .left)) (missed (third .before .same3 .ensures) (third .if5 .left))
     (missed (c .before .same4 .ensures) (c .if6 .left))
 
 pub with-two-spec : {M : Type 1} → statement M
