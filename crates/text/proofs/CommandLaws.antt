@@ -58,7 +58,8 @@ module _ (all : Option (List ℕ)) (line numbers : List ℕ) (count at : ℕ)
 
   pub too-many : count ≡ 10 → at < length line → (getD line at 0 ≡ BLANK → ⊥) → none ≡ all
   too-many e h b =
-      let some-word : numbersOf 0 (words (drop at line)) ≡ none = rw (first-letter line at h b) (unread (part line at (at + 1)) (drop (at + 1) line) (part-size line at (at + 1) (omega arith) (omega arith))) in
+      let some-word : numbersOf 0 (words (drop at line)) ≡ none = rw (first-letter line at h b) (unread (part line at (at + 1))
+      (drop (at + 1) line) (part-size line at (at + 1) (omega arith) (omega arith))) in
       rw (inv, e, some-word)
 
   module _ (word : List ℕ) (end : ℕ) (split : words (drop at line) ≡ word ∷ words (drop end line)) where

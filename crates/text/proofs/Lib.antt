@@ -4,3 +4,4 @@ pub mod NamedLaws
 pub mod CommandLaws
 pub mod PrintLaws
 pub mod Examples
+pub mod Accepted

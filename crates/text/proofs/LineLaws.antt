@@ -53,4 +53,5 @@ module _ (line : List ℕ) (start i : ℕ) (begun : start < i) (inside : i ≤ l
 
   pub ends-blank : i < length line → getD line i 0 ≡ BLANK → wordsAfter (part line start i) (drop i line) ≡ part line start i ∷ words (drop i line)
   unfolding wordsAfter
-  ends-blank h b = rw (drop-cons line i 0 h, eq-eqb (getD line i 0) BLANK b) (some-word (part line start i) (wordsAfter [] (drop (suc i) line)) (part-size line start i begun inside))
+  ends-blank h b = rw (drop-cons line i 0 h, eq-eqb (getD line i 0) BLANK b) (some-word (part line start i)
+      (wordsAfter [] (drop (suc i) line)) (part-size line start i begun inside))

@@ -1,7 +1,8 @@
 -- Which line is which command: CALLS.md, sentence by sentence and in its order.
-use mathlib.Core.Bool.{Bool, true, cond, _&&_}
+use mathlib.Core.Bool.{Bool, true, false, cond, _&&_}
 use mathlib.Core.List.{List, [], _∷_}
 use mathlib.Core.Option.{Option, none, some}
+use mathlib.Core.Path.{_≡_}
 use Prim.Native.Nat.{ℕ, zero, suc, _^_}
 use Prim.Native.String.{String}
 use lib.Dec.{eqb, ltb}
@@ -149,6 +150,14 @@ chosen (f ∷ fs) name ns =
 
 abbrev pub named : List ℕ → List ℕ → Command
 named name ns = chosen forms name ns
+
+-- a name that no form with a token has
+pub record NoToken (name : List ℕ) : Type 0 where
+  pub rollback : sameBytes name (bytes "rollback") ≡ false
+  pub commit : sameBytes name (bytes "commit") ≡ false
+  pub keys : sameBytes name (bytes "keys") ≡ false
+  pub actions : sameBytes name (bytes "actions") ≡ false
+  pub changes : sameBytes name (bytes "changes") ≡ false
 
 -- ---- a line
 

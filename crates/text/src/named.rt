@@ -2,10 +2,10 @@
 ghost use mathlib.Core.Bool.{cond, not};
 ghost use mathlib.Core.List.{[], _∷_};
 ghost use mathlib.Core.Path.{_≡_};
-ghost use Prim.Native.Nat.{_^_, _<_, min};
+ghost use Prim.Native.Nat.{min};
 ghost use lib.ListN.{replicate};
 ghost use Rattle.rules.specs.Lent.{mark};
-ghost use Rattle.text.specs.Command.{named, fit, rowNumbers, KEY, OWNER, AMOUNT, TOKEN, SMALL, MARK};
+ghost use Rattle.text.specs.Command.{named, fit, rowNumbers, NoToken, KEY, OWNER, AMOUNT, TOKEN, SMALL, MARK};
 use crate::command::Command;
 use crate::command::Lengths;
 use crate::command::RowNumbers;
@@ -55,6 +55,14 @@ pub fn with_one(name: &[u8], n: u64) -> Command
     if same(name, b"changes") {
         return Command::Call(Call::Changes(n));
     }
+    with_key(name, n)
+}
+
+// The commands of a key. The caller has seen that the name is none of a token's.
+fn with_key(name: &[u8], n: u64) -> Command
+    requires { ⌜ NoToken (now name) ⌝ }
+    ensures { λ r. ⌜ r ≡ named (now (name .entry)) (n ∷ []) ⌝ }
+{
     if n > MAX_U32 {
         return Command::Error;
     }
@@ -131,7 +139,8 @@ pub fn with_four(name: &[u8], a: u64, b: u64, c: u64, d: u64) -> Command
 }
 
 fn set_state(count: u64, used: u64, open: u64, last: u64) -> Command
-    ensures { λ r. ⌜ r ≡ cond (fit (count ∷ used ∷ «open» ∷ last ∷ []) (SMALL ∷ SMALL ∷ SMALL ∷ TOKEN ∷ [])) (Command.SetState count used «open» last) Command.Error ⌝ }
+    ensures { λ r. ⌜ r ≡ cond (fit (count ∷ used ∷ «open» ∷ last ∷ []) (SMALL ∷ SMALL ∷ SMALL ∷ TOKEN ∷ []))
+        (Command.SetState count used «open» last) Command.Error ⌝ }
 {
     if count > MAX_U32 {
         return Command::Error;
@@ -146,7 +155,8 @@ fn set_state(count: u64, used: u64, open: u64, last: u64) -> Command
 }
 
 fn set_mark(i: u64, serial: u64, log_len: u64, keys: u64) -> Command
-    ensures { λ r. ⌜ r ≡ cond (fit (i ∷ serial ∷ «log_len» ∷ keys ∷ []) (MARK ∷ TOKEN ∷ SMALL ∷ SMALL ∷ [])) (Command.SetMark i (mark serial «log_len» keys)) Command.Error ⌝ }
+    ensures { λ r. ⌜ r ≡ cond (fit (i ∷ serial ∷ «log_len» ∷ keys ∷ []) (MARK ∷ TOKEN ∷ SMALL ∷ SMALL ∷ []))
+        (Command.SetMark i (mark serial «log_len» keys)) Command.Error ⌝ }
 {
     if i > LAST_MARK {
         return Command::Error;
@@ -188,7 +198,8 @@ enum Narrowed {
 }
 
 fn row_numbers(parent: u64, rank: u64, owner: u64, amount: u64) -> Narrowed
-    ensures { λ r. ⌜ r ≡ cond (fit (parent ∷ rank ∷ owner ∷ amount ∷ []) (KEY ∷ SMALL ∷ OWNER ∷ AMOUNT ∷ [])) (Narrowed.Row (rowNumbers parent rank owner amount)) Narrowed.Wide ⌝ }
+    ensures { λ r. ⌜ r ≡ cond (fit (parent ∷ rank ∷ owner ∷ amount ∷ []) (KEY ∷ SMALL ∷ OWNER ∷ AMOUNT ∷ []))
+        (Narrowed.Row (rowNumbers parent rank owner amount)) Narrowed.Wide ⌝ }
 {
     if parent > MAX_U32 {
         return Narrowed::Wide;

@@ -1,9 +1,8 @@
 // Numbers, answers, rows and entries, printed from place `at` of a buffer on. Each function answers the place after
 // what it wrote. The caller leaves room: no answer, row or entry is longer than `ROOM`.
-ghost use mathlib.Core.Path.{_≡_};
+ghost use mathlib.Core.List.{[], _∷_, _++_};
 ghost use Prim.Native.Nat.{_+_, _≤_, _<_};
 ghost use lib.ListN.{length};
-ghost use mathlib.Core.List.{[], _∷_, _++_};
 ghost use Rattle.text.specs.Bytes.{bytes as text};
 ghost use Rattle.text.specs.Printed.{Printed, Wrote, spell, listed, answerText, cellText, rowText, kindText, markText, stateText, errorText};
 use rules::call::Answer;
@@ -84,7 +83,8 @@ fn put_nine(
     to: u64,
 ) -> usize
     requires { ⌜ at + 256 ≤ length (now out) ⌝ }
-    ensures { λ r. ⌜ Printed (now (out .entry)) (now (out .exit)) at (spell no ++ listed (key ∷ token ∷ owner ∷ amount ∷ steps ∷ yes ∷ from ∷ to ∷ [])) r ⌝ }
+    ensures { λ r. ⌜ Printed (now (out .entry)) (now (out .exit)) at
+        (spell no ++ listed (key ∷ token ∷ owner ∷ amount ∷ steps ∷ yes ∷ from ∷ to ∷ [])) r ⌝ }
     ensures { λ r. ⌜ Wrote at 256 r ⌝ }
 {
     let second = put_number(out, at, no);

@@ -7,16 +7,33 @@ use Rattle.text.proofs.named.row_numbers.Statement.{statement}
 use Rattle.text.proofs.named.row_numbers.Tie as tie
 
 returns : tie.Need-returns
-returns c = rw (le-ltb (c .before .args .parent) (2 ^ 32) (omega arith))
+returns c =
+    let start = c .before in
+    rw (le-ltb (start .args .parent) (2 ^ 32) (omega arith))
 
 returns-2 : tie.Need-returns-2
-returns-2 c = rw (lt-ltb (c .before .before .args .parent) (2 ^ 32) (omega arith), le-ltb (c .before .before .args .rank) (2 ^ 32) (omega arith))
+returns-2 c =
+    let start = c .before .before in
+    rw (lt-ltb (start .args .parent) (2 ^ 32) (omega arith), le-ltb (start .args .rank) (2 ^ 32) (omega arith))
 
 returns-3 : tie.Need-returns-3
-returns-3 c = rw (lt-ltb (c .before .before .before .args .parent) (2 ^ 32) (omega arith), lt-ltb (c .before .before .before .args .rank) (2 ^ 32) (omega arith), le-ltb (c .before .before .before .args .owner) (2 ^ 32) (omega arith))
+returns-3 c =
+    let start = c .before .before .before in
+    rw (
+      lt-ltb (start .args .parent) (2 ^ 32) (omega arith),
+      lt-ltb (start .args .rank) (2 ^ 32) (omega arith),
+      le-ltb (start .args .owner) (2 ^ 32) (omega arith),
+    )
 
 returns-4 : tie.Need-returns-4
-returns-4 c = rw (lt-ltb (c .before .before .before .args .parent) (2 ^ 32) (omega arith), lt-ltb (c .before .before .before .args .rank) (2 ^ 32) (omega arith), lt-ltb (c .before .before .before .args .owner) (2 ^ 32) (omega arith), lt-ltb (c .before .before .before .args .amount) (2 ^ 64) (omega (arith, c .before .before .before .fits .amount)))
+returns-4 c =
+    let start = c .before .before .before in
+    rw (
+      lt-ltb (start .args .parent) (2 ^ 32) (omega arith),
+      lt-ltb (start .args .rank) (2 ^ 32) (omega arith),
+      lt-ltb (start .args .owner) (2 ^ 32) (omega arith),
+      lt-ltb (start .args .amount) (2 ^ 64) (omega arith),
+    )
 
 pub row-numbers-spec : {M : Type 1} → statement M
 row-numbers-spec =

@@ -7,16 +7,41 @@ use Rattle.text.proofs.named.set_mark.Statement.{statement}
 use Rattle.text.proofs.named.set_mark.Tie as tie
 
 returns : tie.Need-returns
-returns c = rw (le-ltb (c .before .args .i) 32 (omega arith))
+returns c =
+    let start = c .before in
+    rw (le-ltb (start .args .i) (32) (omega arith))
 
 returns-2 : tie.Need-returns-2
-returns-2 c = rw (lt-ltb (c .before .before .args .i) 32 (omega arith), lt-ltb (c .before .before .args .serial) (2 ^ 64) (omega (arith, c .before .before .fits .serial)), le-ltb (c .before .before .args .log-len) (2 ^ 32) (omega arith))
+returns-2 c =
+    let start = c .before .before in
+    rw (
+      lt-ltb (start .args .i) (32) (omega arith),
+      lt-ltb (start .args .serial) (2 ^ 64) (omega arith),
+      le-ltb (start .args .log-len)
+          (2 ^ 32) (omega arith),
+    )
 
 returns-3 : tie.Need-returns-3
-returns-3 c = rw (lt-ltb (c .before .before .before .args .i) 32 (omega arith), lt-ltb (c .before .before .before .args .serial) (2 ^ 64) (omega (arith, c .before .before .before .fits .serial)), lt-ltb (c .before .before .before .args .log-len) (2 ^ 32) (omega arith), le-ltb (c .before .before .before .args .keys) (2 ^ 32) (omega arith))
+returns-3 c =
+    let start = c .before .before .before in
+    rw (
+      lt-ltb (start .args .i) (32) (omega arith),
+      lt-ltb (start .args .serial) (2 ^ 64) (omega arith),
+      lt-ltb (start .args .log-len)
+          (2 ^ 32) (omega arith),
+      le-ltb (start .args .keys) (2 ^ 32) (omega arith),
+    )
 
 returns-4 : tie.Need-returns-4
-returns-4 c = rw (lt-ltb (c .before .before .before .args .i) 32 (omega arith), lt-ltb (c .before .before .before .args .serial) (2 ^ 64) (omega (arith, c .before .before .before .fits .serial)), lt-ltb (c .before .before .before .args .log-len) (2 ^ 32) (omega arith), lt-ltb (c .before .before .before .args .keys) (2 ^ 32) (omega arith))
+returns-4 c =
+    let start = c .before .before .before in
+    rw (
+      lt-ltb (start .args .i) (32) (omega arith),
+      lt-ltb (start .args .serial) (2 ^ 64) (omega arith),
+      lt-ltb (start .args .log-len)
+          (2 ^ 32) (omega arith),
+      lt-ltb (start .args .keys) (2 ^ 32) (omega arith),
+    )
 
 pub set-mark-spec : {M : Type 1} → statement M
 set-mark-spec =

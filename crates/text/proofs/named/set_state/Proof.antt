@@ -7,16 +7,33 @@ use Rattle.text.proofs.named.set_state.Statement.{statement}
 use Rattle.text.proofs.named.set_state.Tie as tie
 
 returns : tie.Need-returns
-returns c = rw (le-ltb (c .before .args .count) (2 ^ 32) (omega arith))
+returns c =
+    let start = c .before in
+    rw (le-ltb (start .args .count) (2 ^ 32) (omega arith))
 
 returns-2 : tie.Need-returns-2
-returns-2 c = rw (lt-ltb (c .before .before .args .count) (2 ^ 32) (omega arith), le-ltb (c .before .before .args .used) (2 ^ 32) (omega arith))
+returns-2 c =
+    let start = c .before .before in
+    rw (lt-ltb (start .args .count) (2 ^ 32) (omega arith), le-ltb (start .args .used) (2 ^ 32) (omega arith))
 
 returns-3 : tie.Need-returns-3
-returns-3 c = rw (lt-ltb (c .before .before .before .args .count) (2 ^ 32) (omega arith), lt-ltb (c .before .before .before .args .used) (2 ^ 32) (omega arith), le-ltb (c .before .before .before .args .«open») (2 ^ 32) (omega arith))
+returns-3 c =
+    let start = c .before .before .before in
+    rw (
+      lt-ltb (start .args .count) (2 ^ 32) (omega arith),
+      lt-ltb (start .args .used) (2 ^ 32) (omega arith),
+      le-ltb (start .args .«open») (2 ^ 32) (omega arith),
+    )
 
 returns-4 : tie.Need-returns-4
-returns-4 c = rw (lt-ltb (c .before .before .before .args .count) (2 ^ 32) (omega arith), lt-ltb (c .before .before .before .args .used) (2 ^ 32) (omega arith), lt-ltb (c .before .before .before .args .«open») (2 ^ 32) (omega arith), lt-ltb (c .before .before .before .args .last) (2 ^ 64) (omega (arith, c .before .before .before .fits .last)))
+returns-4 c =
+    let start = c .before .before .before in
+    rw (
+      lt-ltb (start .args .count) (2 ^ 32) (omega arith),
+      lt-ltb (start .args .used) (2 ^ 32) (omega arith),
+      lt-ltb (start .args .«open») (2 ^ 32) (omega arith),
+      lt-ltb (start .args .last) (2 ^ 64) (omega arith),
+    )
 
 pub set-state-spec : {M : Type 1} → statement M
 set-state-spec =

@@ -16,17 +16,29 @@ Inv-loop n i₀ i = (i ≤ 10) × (fit n (replicate 10 SMALL) ≡ fit (drop i n)
 abbrev μ-loop : tie.MeasureT-loop
 μ-loop n i₀ i = 10 - i
 
+ten : (c : tie.Start Inv-loop μ-loop) → length (c .args .t1) ≡ 10
+ten c = search needs
+
 loop-holds : tie.Need-loop-holds Inv-loop μ-loop
 loop-holds c = (omega arith, refl)
 
 returns : tie.Need-returns Inv-loop μ-loop
-returns c = let ten : length (c .before .before .before .args .t1) ≡ 10 = search needs in rw (c .before .before .loop .inv .1, fit-fails (c .before .before .before .args .t1) (c .before .before .loop .i) (omega arith) (omega arith) (omega arith))
+returns c =
+    let head = c .before .before in
+    let size = ten (head .before) in
+    rw (head .loop .inv .1, fit-fails (head .before .args .t1) (head .loop .i) (omega arith) (omega arith) (omega arith))
 
 loop-again : tie.Need-loop-again Inv-loop μ-loop
-loop-again c = let ten : length (c .before .before .before .args .t1) ≡ 10 = search needs in (omega arith, c .before .before .loop .inv .1 ∙ fit-next (c .before .before .before .args .t1) (c .before .before .loop .i) (omega arith) (omega arith) (omega arith))
+loop-again c =
+    let head = c .before .before in
+    let size = ten (head .before) in
+    (omega arith, head .loop .inv .1 ∙ fit-next (head .before .args .t1) (head .loop .i) (omega arith) (omega arith) (omega arith))
 
 returns-2 : tie.Need-returns-2 Inv-loop μ-loop
-returns-2 c = let ten : length (c .before .before .args .t1) ≡ 10 = search needs in rw (c .before .loop .inv .1, fit-end (c .before .before .args .t1) (c .before .loop .i) (omega arith))
+returns-2 c =
+    let head = c .before in
+    let size = ten (head .before) in
+    rw (head .loop .inv .1, fit-end (head .before .args .t1) (head .loop .i) (omega arith))
 
 pub wide-spec : {M : Type 1} → statement M
 wide-spec =

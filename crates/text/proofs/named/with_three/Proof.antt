@@ -1,11 +1,7 @@
 -- `named::with_three` meets its contract. Assumes nothing.
-use Prim.Native.Nat.{_^_}
 use native.Mathlib.Omega.{arith}
 use borrow.Author.Needs.{needs}
-use borrow.Author.Tests.{lt-ltb}
-use Rattle.text.proofs.NamedLaws.{missed, no-name-3, wide-3, wide-3-second}
-use Rattle.text.specs.Bytes.{sameBytes}
-use Rattle.text.specs.Command.{chosen, forms}
+use Rattle.text.proofs.NamedLaws.{missed, no-name-3, said-post, wide-3, wide-3-second}
 use Rattle.text.proofs.named.with_three.Statement.{statement}
 use Rattle.text.proofs.named.with_three.Tie as tie
 
@@ -16,8 +12,7 @@ returns-2 : tie.Need-returns-2
 returns-2 c = wide-3-second _ _ _ _ (omega arith) (omega arith)
 
 returns-3 : tie.Need-returns-3
-unfolding chosen forms sameBytes
-returns-3 c = rw ((c .before .same .ensures .0 (c .if3 .taken)), lt-ltb (c .before .before .before .before .before .before .args .key) (2 ^ 32) (omega arith), lt-ltb (c .before .before .before .before .before .before .args .owner) (2 ^ 32) (omega arith), lt-ltb (c .before .before .before .before .before .before .args .amount) (2 ^ 64) (omega (arith, c .before .before .before .before .before .before .fits .amount)))
+returns-3 c = said-post _ _ _ _ (omega arith) (omega arith) (omega arith) (c .before .same .ensures .0 (c .if3 .taken))
 
 returns-4 : tie.Need-returns-4
 returns-4 c = no-name-3 _ _ _ _ (missed (c .before .same .ensures) (c .if3 .left))

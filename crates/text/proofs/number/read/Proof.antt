@@ -25,30 +25,44 @@ loop-holds c = (omega arith, omega arith, read-start _ _ (c .if1 .left))
 
 returns-2 : tie.Need-returns-2 Inv-loop μ-loop
 returns-2 c =
-    read-no-digit (c .before .before .before .before .before .before .before .args .word .now) (c .before .before .before .before .before .before .before .args .limit) (c .before .before .before .before .loop .n) (c .before .before .before .before .loop .i) (c .before .before .before .before .loop .inv .2) (omega arith)
-    (omega (arith, c .before .digit .ensures))
+    let head = c .before .before .before .before in
+    read-no-digit _ _ (head .loop .n) (head .loop .i) (head .loop .inv .2) (omega arith) (omega (arith, c .before .digit .ensures))
 
 returns-3 : tie.Need-returns-3 Inv-loop μ-loop
 returns-3 c =
-    read-past (c .before .before .before .before .before .before .before .before .args .word .now) (c .before .before .before .before .before .before .before .before .args .limit) (c .before .before .before .before .before .loop .n) (c .before .before .before .before .before .loop .i) (c .before .before .before .before .before .loop .inv .2) (omega arith) (c .before .before .before .before .before .before .before .before .pre)
-    (c .before .before .digit .result) (c .before .before .digit .ensures) (omega arith) (c .if3 .taken)
+    let digit = c .before .before in
+    let head = digit .before .before .before in
+    read-past _ _ (head .loop .n) (head .loop .i) (head .loop .inv .2) (omega arith) (head .before .before .before .pre) (digit .digit .result)
+    (digit .digit .ensures) (omega arith) (c .if3 .taken)
+
+-- a digit that may be taken in
+fits : (c : tie.Else3 Inv-loop μ-loop)
+    → let digit = c .before .before in
+    let head = digit .before .before .before in head .loop .n * 10 + digit .digit .result ≤ head .before .before .before .args .limit
+fits c =
+    let digit = c .before .before in
+    let head = digit .before .before .before in
+    fits-more _ (head .loop .n) (digit .digit .result) (head .before .before .before .pre) (omega arith) (c .if3 .left)
 
 mul-n : tie.Need-mul-n Inv-loop μ-loop
-mul-n c = omega (arith, fits-more (c .before .before .before .before .before .before .before .before .args .limit) (c .before .before .before .before .before .loop .n) (c .before .before .digit .result) (c .before .before .before .before .before .before .before .before .pre) (omega arith) (c .if3 .left))
+mul-n c = omega (arith, fits c)
 
 add-n : tie.Need-add-n Inv-loop μ-loop
-add-n c = omega (arith, fits-more (c .before .before .before .before .before .before .before .before .args .limit) (c .before .before .before .before .before .loop .n) (c .before .before .digit .result) (c .before .before .before .before .before .before .before .before .pre) (omega arith) (c .if3 .left))
+add-n c = omega (arith, fits c)
 
 loop-again : tie.Need-loop-again Inv-loop μ-loop
-loop-again c = (
-  omega arith,
-  fits-more (c .before .before .before .before .before .before .before .before .args .limit) (c .before .before .before .before .before .loop .n) (c .before .before .digit .result) (c .before .before .before .before .before .before .before .before .pre) (omega arith) (c .if3 .left),
-  read-more (c .before .before .before .before .before .before .before .before .args .word .now) (c .before .before .before .before .before .before .before .before .args .limit) (c .before .before .before .before .before .loop .n) (c .before .before .before .before .before .loop .i) (c .before .before .before .before .before .loop .inv .2) (omega arith) (c .before .before .before .before .before .before .before .before .pre)
-      (c .before .before .digit .result) (c .before .before .digit .ensures) (omega arith) (c .if3 .left),
-)
+loop-again c =
+    let digit = c .before .before in
+    let head = digit .before .before .before in
+    let more =
+    read-more _ _ (head .loop .n) (head .loop .i) (head .loop .inv .2) (omega arith) (head .before .before .before .pre)
+    (digit .digit .result) (digit .digit .ensures) (omega arith) (c .if3 .left) in
+    (omega arith, fits c, more)
 
 returns-4 : tie.Need-returns-4 Inv-loop μ-loop
-returns-4 c = read-end (c .before .before .before .before .args .word .now) (c .before .before .before .before .args .limit) (c .before .loop .n) (c .before .loop .i) (c .before .loop .inv .2) (omega arith)
+returns-4 c =
+    let head = c .before in
+    read-end _ _ (head .loop .n) (head .loop .i) (head .loop .inv .2) (omega arith)
 
 pub read-spec : {M : Type 1} → statement M
 read-spec =

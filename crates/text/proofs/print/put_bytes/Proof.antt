@@ -25,7 +25,8 @@ loop-again c = (
   search needs,
   simp length-set (omega arith),
   rw (add-one (c .before .before .loop .i), c .before .before .loop .inv .2)
-      (paste-suc (c .before .before .before .args .out .now) (c .before .before .before .args .at) (c .before .before .before .args .bytes .now) (c .before .before .loop .i) 0 (omega arith) (omega arith)),
+      (paste-suc (c .before .before .before .args .out .now) (c .before .before .before .args .at)
+      (c .before .before .before .args .bytes .now) (c .before .before .loop .i) 0 (omega arith) (omega arith)),
 )
 
 returns : tie.Need-returns Inv-loop μ-loop

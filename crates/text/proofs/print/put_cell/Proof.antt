@@ -21,4 +21,5 @@ returns-2 c =
 pub put-cell-spec : {M : Type 1} → statement M
 put-cell-spec =
     tie.close
-    (tie.spec (search needs) (search needs) (λ c κs. search needs) (search needs) (λ c κs. search needs) (search needs) returns (search needs) returns-2)
+    (tie.spec (search needs) (search needs) (λ c κs. search needs) (search needs) (λ c κs. search needs) (search needs) returns
+    (search needs) returns-2)

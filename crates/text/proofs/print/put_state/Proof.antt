@@ -14,4 +14,5 @@ returns c =
 pub put-state-spec : {M : Type 1} → statement M
 put-state-spec =
     tie.close
-    (tie.spec (search needs) (λ c κs. search needs) (search needs) (search needs) (search needs) (λ c κs. search needs) (search needs) (λ c κs. search needs) (search needs) returns)
+    (tie.spec (search needs) (λ c κs. search needs) (search needs) (search needs) (search needs) (λ c κs. search needs)
+    (search needs) (λ c κs. search needs) (search needs) returns)

@@ -26,7 +26,8 @@ returns c =
     record {
       some = omega arith;
       inside = omega arith;
-      first = λ b. head .loop .inv .2 b ∙ ends-blank (head .before .args .line .now) (head .before .args .start) (head .loop .i) (omega arith) (omega arith) (omega arith) (c .if1 .taken);
+      first = λ b. head .loop .inv .2 b ∙ ends-blank (head .before .args .line .now) (head .before .args .start) (head .loop .i)
+          (omega arith) (omega arith) (omega arith) (c .if1 .taken);
     }
 
 loop-again : tie.Need-loop-again Inv-loop μ-loop
@@ -34,7 +35,8 @@ loop-again c =
     let head = c .before .before .before in (
       omega arith,
       omega arith,
-      λ b. head .loop .inv .2 b ∙ past-letter (head .before .args .line .now) (head .before .args .start) (head .loop .i) (omega arith) (omega arith) (c .if1 .left),
+      λ b. head .loop .inv .2 b ∙ past-letter (head .before .args .line .now) (head .before .args .start) (head .loop .i) (omega arith)
+          (omega arith) (c .if1 .left),
     )
 
 returns-2 : tie.Need-returns-2 Inv-loop μ-loop
@@ -43,7 +45,8 @@ returns-2 c =
     record {
       some = omega arith;
       inside = omega arith;
-      first = λ b. head .loop .inv .2 b ∙ ends-line (head .before .args .line .now) (head .before .args .start) (head .loop .i) (omega arith) (omega arith) (omega arith);
+      first = λ b. head .loop .inv .2 b ∙ ends-line (head .before .args .line .now) (head .before .args .start) (head .loop .i)
+          (omega arith) (omega arith) (omega arith);
     }
 
 pub word-end-spec : {M : Type 1} → statement M
