@@ -1,31 +1,108 @@
 -- What four numbers ask for, and what a list of them does. Assumes nothing.
 use mathlib.Core.Path.{_≡_, refl, sym, ap, _∙_}
 use mathlib.Core.Bool.{Bool, true, false, cond, _&&_}
-use mathlib.Core.List.{List, [], _∷_, map}
-use Prim.Native.Nat.{ℕ, suc, _+_, _-_, _*_, _≤_, _<_}
+use mathlib.Core.List.{List, [], _∷_}
+use Prim.Native.Nat.{ℕ, zero, suc, _+_, _-_, _*_, _≤_, _<_}
 use native.Mathlib.Decide.{decLt}
 use native.Mathlib.Omega.{arith}
 use native.Mathlib.Numerals.{add-one}
-use lib.ListN.{length, getD, drop, List·getD-map, length-drop}
+use lib.ListN.{length, getD, drop, length-drop}
 use lib.Seq.{drop-cons}
-use lib.Dec.{ltb, leb}
-use borrow.Author.Tests.{lt-ltb, le-ltb, le-leb, lt-leb}
+use lib.Dec.{eqb, ltb, leb}
+use borrow.Author.Tests.{ne-eqb, lt-ltb, le-ltb, le-leb, lt-leb}
 use Rattle.rules.specs.declared.call.Call.{Call}
 use Rattle.layout.specs.declared.coding.Asked.{Asked}
 use Rattle.layout.specs.declared.coding.Asked.the-variants.{Nothing, Call as asked}
-use Rattle.layout.specs.Coding.{UNUSED, Form, forms, formOf, fits, askedOf, Listed, unlisted, calls, then, listed, isListed, callsIn, called, askedAt, calledAt}
+use Rattle.layout.specs.Coding.{SHORT, LONG, forms, formOf, fits, askedOf, Listed, unlisted, calls, then, listed, isListed, callsIn, called, askedAt, calledAt}
 
 -- ---- one call
 
--- The code's tables are the columns of the rules' table.
-pub most-a : (code : ℕ) → getD (map (λ (f : Form). f .a) forms) code UNUSED ≡ formOf code .a
-most-a code = List·getD-map (λ (f : Form). f .a) forms code (formOf 15)
+-- The code's limits are the columns of the rules' table.
+abbrev a-limit : ℕ → ℕ
+a-limit code = cond (eqb code 1) 0 (cond (eqb code 9) 0 (cond (ltb code 10) SHORT LONG))
 
-pub most-b : (code : ℕ) → getD (map (λ (f : Form). f .b) forms) code UNUSED ≡ formOf code .b
-most-b code = List·getD-map (λ (f : Form). f .b) forms code (formOf 15)
+a-limited : (code : ℕ) → code < 15 → a-limit code ≡ formOf code .a
+a-limited zero h = refl
+a-limited (suc zero) h = refl
+a-limited (suc (suc zero)) h = refl
+a-limited (suc (suc (suc zero))) h = refl
+a-limited (suc (suc (suc (suc zero)))) h = refl
+a-limited (suc (suc (suc (suc (suc zero))))) h = refl
+a-limited (suc (suc (suc (suc (suc (suc zero)))))) h = refl
+a-limited (suc (suc (suc (suc (suc (suc (suc zero))))))) h = refl
+a-limited (suc (suc (suc (suc (suc (suc (suc (suc zero)))))))) h = refl
+a-limited (suc (suc (suc (suc (suc (suc (suc (suc (suc zero))))))))) h = refl
+a-limited (suc (suc (suc (suc (suc (suc (suc (suc (suc (suc zero)))))))))) h = refl
+a-limited (suc (suc (suc (suc (suc (suc (suc (suc (suc (suc (suc zero))))))))))) h = refl
+a-limited (suc (suc (suc (suc (suc (suc (suc (suc (suc (suc (suc (suc zero)))))))))))) h = refl
+a-limited (suc (suc (suc (suc (suc (suc (suc (suc (suc (suc (suc (suc (suc zero))))))))))))) h = refl
+a-limited (suc (suc (suc (suc (suc (suc (suc (suc (suc (suc (suc (suc (suc (suc zero)))))))))))))) h = refl
+a-limited (suc (suc (suc (suc (suc (suc (suc (suc (suc (suc (suc (suc (suc (suc (suc n))))))))))))))) h = absurd (omega arith)
 
-pub most-c : (code : ℕ) → getD (map (λ (f : Form). f .c) forms) code UNUSED ≡ formOf code .c
-most-c code = List·getD-map (λ (f : Form). f .c) forms code (formOf 15)
+abbrev b-limit : ℕ → ℕ
+b-limit code = cond (eqb code 0) LONG (cond (ltb code 3) 0 (cond (ltb code 6) SHORT 0))
+
+b-limited : (code : ℕ) → code < 15 → b-limit code ≡ formOf code .b
+b-limited zero h = refl
+b-limited (suc zero) h = refl
+b-limited (suc (suc zero)) h = refl
+b-limited (suc (suc (suc zero))) h = refl
+b-limited (suc (suc (suc (suc zero)))) h = refl
+b-limited (suc (suc (suc (suc (suc zero))))) h = refl
+b-limited (suc (suc (suc (suc (suc (suc zero)))))) h = refl
+b-limited (suc (suc (suc (suc (suc (suc (suc zero))))))) h = refl
+b-limited (suc (suc (suc (suc (suc (suc (suc (suc zero)))))))) h = refl
+b-limited (suc (suc (suc (suc (suc (suc (suc (suc (suc zero))))))))) h = refl
+b-limited (suc (suc (suc (suc (suc (suc (suc (suc (suc (suc zero)))))))))) h = refl
+b-limited (suc (suc (suc (suc (suc (suc (suc (suc (suc (suc (suc zero))))))))))) h = refl
+b-limited (suc (suc (suc (suc (suc (suc (suc (suc (suc (suc (suc (suc zero)))))))))))) h = refl
+b-limited (suc (suc (suc (suc (suc (suc (suc (suc (suc (suc (suc (suc (suc zero))))))))))))) h = refl
+b-limited (suc (suc (suc (suc (suc (suc (suc (suc (suc (suc (suc (suc (suc (suc zero)))))))))))))) h = refl
+b-limited (suc (suc (suc (suc (suc (suc (suc (suc (suc (suc (suc (suc (suc (suc (suc n))))))))))))))) h = absurd (omega arith)
+
+abbrev c-limit : ℕ → ℕ
+c-limit code = cond (eqb code 5) LONG 0
+
+c-limited : (code : ℕ) → code < 15 → c-limit code ≡ formOf code .c
+c-limited zero h = refl
+c-limited (suc zero) h = refl
+c-limited (suc (suc zero)) h = refl
+c-limited (suc (suc (suc zero))) h = refl
+c-limited (suc (suc (suc (suc zero)))) h = refl
+c-limited (suc (suc (suc (suc (suc zero))))) h = refl
+c-limited (suc (suc (suc (suc (suc (suc zero)))))) h = refl
+c-limited (suc (suc (suc (suc (suc (suc (suc zero))))))) h = refl
+c-limited (suc (suc (suc (suc (suc (suc (suc (suc zero)))))))) h = refl
+c-limited (suc (suc (suc (suc (suc (suc (suc (suc (suc zero))))))))) h = refl
+c-limited (suc (suc (suc (suc (suc (suc (suc (suc (suc (suc zero)))))))))) h = refl
+c-limited (suc (suc (suc (suc (suc (suc (suc (suc (suc (suc (suc zero))))))))))) h = refl
+c-limited (suc (suc (suc (suc (suc (suc (suc (suc (suc (suc (suc (suc zero)))))))))))) h = refl
+c-limited (suc (suc (suc (suc (suc (suc (suc (suc (suc (suc (suc (suc (suc zero))))))))))))) h = refl
+c-limited (suc (suc (suc (suc (suc (suc (suc (suc (suc (suc (suc (suc (suc (suc zero)))))))))))))) h = refl
+c-limited (suc (suc (suc (suc (suc (suc (suc (suc (suc (suc (suc (suc (suc (suc (suc n))))))))))))))) h = absurd (omega arith)
+
+module _ (code : ℕ) (h : code < 15) where
+  pub a-short : (code ≡ 1 → ⊥) → (code ≡ 9 → ⊥) → code < 10 → SHORT ≡ formOf code .a
+  a-short n m l =
+      let e : a-limit code ≡ SHORT = rw (ne-eqb code 1 n, ne-eqb code 9 m, lt-ltb code 10 l) in
+      sym e ∙ a-limited code h
+
+  pub a-long : (code ≡ 1 → ⊥) → (code ≡ 9 → ⊥) → 10 ≤ code → LONG ≡ formOf code .a
+  a-long n m l =
+      let e : a-limit code ≡ LONG = rw (ne-eqb code 1 n, ne-eqb code 9 m, le-ltb code 10 l) in
+      sym e ∙ a-limited code h
+
+  pub b-early : (code ≡ 0 → ⊥) → code < 3 → 0 ≡ formOf code .b
+  b-early n l = let e : b-limit code ≡ 0 = rw (ne-eqb code 0 n, lt-ltb code 3 l) in sym e ∙ b-limited code h
+
+  pub b-short : (code ≡ 0 → ⊥) → 3 ≤ code → code < 6 → SHORT ≡ formOf code .b
+  b-short n m l = let e : b-limit code ≡ SHORT = rw (ne-eqb code 0 n, le-ltb code 3 m, lt-ltb code 6 l) in sym e ∙ b-limited code h
+
+  pub b-late : (code ≡ 0 → ⊥) → 3 ≤ code → 6 ≤ code → 0 ≡ formOf code .b
+  b-late n m l = let e : b-limit code ≡ 0 = rw (ne-eqb code 0 n, le-ltb code 3 m, le-ltb code 6 l) in sym e ∙ b-limited code h
+
+  pub c-none : (code ≡ 5 → ⊥) → 0 ≡ formOf code .c
+  c-none n = let e : c-limit code ≡ 0 = rw (ne-eqb code 5 n) in sym e ∙ c-limited code h
 
 never : (x y : Bool) → y ≡ false → x && y ≡ false
 never true y e = e

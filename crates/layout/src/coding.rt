@@ -1,7 +1,7 @@
 ghost use mathlib.Core.Path.{_≡_};
-ghost use Prim.Native.Nat.{_+_, _≤_};
+ghost use Prim.Native.Nat.{_+_, _≤_, _<_};
 ghost use lib.ListN.{length};
-ghost use Rattle.layout.specs.Coding.{askedOf, calledAt, listed, isListed};
+ghost use Rattle.layout.specs.Coding.{formOf, askedOf, calledAt, listed, isListed};
 use rules::call::Call;
 
 // What four numbers ask for.
@@ -10,63 +10,58 @@ pub enum Asked {
     Call(Call),
 }
 
-// How many codes there are, and how large a, b and c may be for each: 0 where a call has no such number, below 2^32 for
-// keys and owners, below 2^64 for amounts and tokens.
+// How many codes there are, and the largest numbers: keys and owners have 32 bits, amounts and tokens 64.
 const CODES: u64 = 15;
 
-const MOST_A: [u64; 15] = [
-    4294967295,
-    0,
-    4294967295,
-    4294967295,
-    4294967295,
-    4294967295,
-    4294967295,
-    4294967295,
-    4294967295,
-    0,
-    18446744073709551615,
-    18446744073709551615,
-    18446744073709551615,
-    18446744073709551615,
-    18446744073709551615,
-];
+const SHORT: u64 = 4294967295;
 
-const MOST_B: [u64; 15] = [
-    18446744073709551615,
-    0,
-    0,
-    4294967295,
-    4294967295,
-    4294967295,
-    0,
-    0,
-    0,
-    0,
-    0,
-    0,
-    0,
-    0,
-    0,
-];
+const LONG: u64 = 18446744073709551615;
 
-const MOST_C: [u64; 15] = [
-    0,
-    0,
-    0,
-    0,
-    0,
-    18446744073709551615,
-    0,
-    0,
-    0,
-    0,
-    0,
-    0,
-    0,
-    0,
-    0,
-];
+// How large `a` may be: `len` and `snapshot` have none, codes from `rollback` on a token, and all others a key or an owner.
+// These are tests and no table, since an array would be made anew for each call.
+fn most_a(code: u64) -> u64
+    requires { ⌜ code < 15 ⌝ }
+    ensures { λ r. ⌜ r ≡ formOf code .a ⌝ }
+{
+    if code == 1 {
+        return 0;
+    }
+    if code == 9 {
+        return 0;
+    }
+    if code < 10 {
+        return SHORT;
+    }
+    LONG
+}
+
+// How large `b` may be: `new` has an amount, `unioned`, `join` and `post` have a key or an owner.
+fn most_b(code: u64) -> u64
+    requires { ⌜ code < 15 ⌝ }
+    ensures { λ r. ⌜ r ≡ formOf code .b ⌝ }
+{
+    if code == 0 {
+        return LONG;
+    }
+    if code < 3 {
+        return 0;
+    }
+    if code < 6 {
+        return SHORT;
+    }
+    0
+}
+
+// How large `c` may be: `post` has an amount.
+fn most_c(code: u64) -> u64
+    requires { ⌜ code < 15 ⌝ }
+    ensures { λ r. ⌜ r ≡ formOf code .c ⌝ }
+{
+    if code == 5 {
+        return LONG;
+    }
+    0
+}
 
 // The call that four numbers ask for.
 pub fn read_call(code: u64, a: u64, b: u64, c: u64) -> Asked
@@ -75,14 +70,13 @@ pub fn read_call(code: u64, a: u64, b: u64, c: u64) -> Asked
     if code >= CODES {
         return Asked::Nothing;
     }
-    let at = code as usize;
-    if a > MOST_A[at] {
+    if a > most_a(code) {
         return Asked::Nothing;
     }
-    if b > MOST_B[at] {
+    if b > most_b(code) {
         return Asked::Nothing;
     }
-    if c > MOST_C[at] {
+    if c > most_c(code) {
         return Asked::Nothing;
     }
     match code {
