@@ -1,4 +1,14 @@
-// Bytes of the input gathered into a line.
+ghost use mathlib.Core.Path.{_≡_};
+ghost use lib.ListN.{take, drop};
+ghost use Rattle.lines.specs.Lines.{line as lineOf, reached, keeping, gathering};
+
+// How much of a line is kept, and whether there was more than there is room for.
+pub struct Kept {
+    pub n: usize,
+    pub overlong: bool,
+}
+
+// The same after some bytes of the input: the place after them, and whether the line ended there.
 pub struct Gathered {
     pub n: usize,
     pub overlong: bool,
@@ -6,26 +16,19 @@ pub struct Gathered {
     pub ended: bool,
 }
 
-// Puts a byte at place `n` of a line, and answers whether there was room for it.
-fn keep(line: &mut [u8], n: usize, byte: u8) -> bool {
-    if n < line.len() {
-        line[n] = byte;
-        return true;
-    }
-    false
-}
-
 // One more byte of a line that goes on.
-fn gather_byte(line: &mut [u8], so_far: Gathered, byte: u8) -> Gathered {
-    let mut now = so_far;
-    if keep(line, so_far.n, byte) {
-        if so_far.n < 65536 {
-            now.n = so_far.n + 1;
-            return now;
-        }
+fn gather_byte(line: &mut [u8], kept: Kept, byte: u8) -> Kept
+    ensures { λ r. ⌜ lineOf (now (line .exit)) (r .n) (r .overlong) ≡ keeping (lineOf (now (line .entry)) (kept .n) (kept .overlong)) byte ⌝ }
+{
+    let n = kept.n;
+    if n >= line.len() {
+        return Kept { n, overlong: true };
     }
-    now.overlong = true;
-    now
+    line[n] = byte;
+    Kept {
+        n: n + 1,
+        overlong: kept.overlong,
+    }
 }
 
 // Takes bytes from place `from` up to `count`, or up to a line feed, which it reads over.
@@ -36,26 +39,32 @@ pub fn gather(
     input: &[u8],
     from: usize,
     count: usize,
-) -> Gathered {
-    let mut now = Gathered {
-        n,
-        overlong,
-        next: from,
-        ended: false,
-    };
+) -> Gathered
+    ensures { λ r. ⌜ reached (lineOf (now (line .exit)) (r .n) (r .overlong)) (r .next) (r .ended) ≡ gathering from (lineOf (now (line .entry)) n overlong) (drop from (take count (now (input .entry)))) ⌝ }
+{
+    let mut kept = Kept { n, overlong };
     let mut i = from;
     while i < count {
         if i >= input.len() {
-            break;
+            return gathered_at(kept, i, false);
         }
         let byte = input[i];
-        i += 1;
         if byte == b'\n' {
-            now.ended = true;
-            break;
+            return gathered_at(kept, i + 1, true);
         }
-        now = gather_byte(line, now, byte);
+        kept = gather_byte(line, kept, byte);
+        i += 1;
     }
-    now.next = i;
-    now
+    gathered_at(kept, i, false)
+}
+
+fn gathered_at(kept: Kept, next: usize, ended: bool) -> Gathered
+    ensures { λ r. ⌜ (r .n ≡ kept .n) × (r .overlong ≡ kept .overlong) × (r .next ≡ next) × (r .ended ≡ ended) ⌝ }
+{
+    Gathered {
+        n: kept.n,
+        overlong: kept.overlong,
+        next,
+        ended,
+    }
 }

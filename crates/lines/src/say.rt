@@ -1,14 +1,23 @@
-ghost use Prim.Native.Nat.{_≤_};
+ghost use mathlib.Core.Path.{_≡_};
+ghost use mathlib.Core.List.{[], _∷_, _++_};
+ghost use Prim.Native.Nat.{_-_, _≤_};
 ghost use lib.ListN.{length};
+ghost use Rattle.rules.specs.Contract.{rowsLent, logLent, tableLent};
+ghost use Rattle.rules.specs.Lent.{Table};
+ghost use Rattle.memory.specs.Cut.{lentOf};
+ghost use Rattle.text.specs.Bytes.{bytes};
+ghost use Rattle.text.specs.Printed.{errorText};
+ghost use Rattle.lines.specs.Pieces.{Said};
+ghost use Rattle.lines.specs.Replies.{FEED, rowsOf, answerPieces, lookPieces, memoryPieces, statePieces, livePieces, dumpPieces, replyPieces, each, sincePieces, onward, logOf};
 use crate::buffer::room;
+use crate::extent::in_use;
+use crate::extent::longest_log;
+use crate::extent::longest_rows;
 use crate::show::entries;
 use crate::show::marks;
 use crate::show::row_cells;
 use crate::show::rows;
 use crate::since::entries_since;
-use memory::lent::in_use;
-use memory::lent::longest_log;
-use memory::lent::longest_rows;
 use memory::reply::Reply;
 use rules::call::Answer;
 use rules::call::Call;
@@ -40,6 +49,8 @@ pub fn say<'a>(
     line: u64,
 ) -> usize
     requires { ⌜ 256 ≤ length (now out) ⌝ }
+    ensures { let t = tableLent parents ranks owners amounts logkinds logkeys logparents logranks logowners logamounts in
+        λ r. ⌜ Said (now (out .entry)) (now (out .exit)) at (replyPieces lengths (t .entry state) reply line) r ⌝ }
 {
     match reply {
         Reply::Silent => at,
@@ -103,6 +114,7 @@ pub fn say<'a>(
 // The line feed.
 fn feed(out: &mut [u8], at: usize) -> usize
     requires { ⌜ 256 ≤ length (now out) ⌝ }
+    ensures { λ r. ⌜ Said (now (out .entry)) (now (out .exit)) at (FEED ∷ []) r ⌝ }
 {
     let start = room(out, at);
     put_byte(out, start, b'\n')
@@ -110,6 +122,7 @@ fn feed(out: &mut [u8], at: usize) -> usize
 
 fn error(out: &mut [u8], at: usize, line: u64) -> usize
     requires { ⌜ 256 ≤ length (now out) ⌝ }
+    ensures { λ r. ⌜ Said (now (out .entry)) (now (out .exit)) at (errorText line ∷ []) r ⌝ }
 {
     let start = room(out, at);
     put_error(out, start, line)
@@ -117,6 +130,7 @@ fn error(out: &mut [u8], at: usize, line: u64) -> usize
 
 fn ok(out: &mut [u8], at: usize) -> usize
     requires { ⌜ 256 ≤ length (now out) ⌝ }
+    ensures { λ r. ⌜ Said (now (out .entry)) (now (out .exit)) at ((bytes "ok" ++ FEED) ∷ []) r ⌝ }
 {
     let start = room(out, at);
     put_bytes(out, start, b"ok\n")
@@ -124,6 +138,7 @@ fn ok(out: &mut [u8], at: usize) -> usize
 
 fn table(out: &mut [u8], at: usize) -> usize
     requires { ⌜ 256 ≤ length (now out) ⌝ }
+    ensures { λ r. ⌜ Said (now (out .entry)) (now (out .exit)) at ((bytes "table" ++ FEED) ∷ []) r ⌝ }
 {
     let start = room(out, at);
     put_bytes(out, start, b"table\n")
@@ -149,7 +164,10 @@ fn answered<'a>(
     answer: Answer,
 ) -> usize
     requires { ⌜ 256 ≤ length (now out) ⌝ }
+    ensures { let t = tableLent parents ranks owners amounts logkinds logkeys logparents logranks logowners logamounts in
+        λ r. ⌜ Said (now (out .entry)) (now (out .exit)) at (answerPieces (lentOf lengths (t .entry state)) call answer) r ⌝ }
 {
+    let more = onward_of(call, answer);
     let start = room(out, at);
     let middle = put_answer(out, start, answer);
     let end = entries_since(
@@ -167,30 +185,34 @@ fn answered<'a>(
         logranks,
         logowners,
         logamounts,
-        token_of(call),
-        entries_of(call, answer),
+        more.token,
+        more.n,
     );
     feed(out, end)
 }
 
-// The token whose entries are shown, if any are.
-fn token_of(call: Call) -> u64 {
-    match call {
-        Call::Actions(token) => token,
-        _ => 0,
-    }
+// The entries that an answer goes on with: so many since a snapshot.
+struct Onward {
+    token: u64,
+    n: u32,
 }
 
-// How many entries are shown.
-fn entries_of(call: Call, answer: Answer) -> u32 {
+fn onward_of(call: Call, answer: Answer) -> Onward
+    ensures { λ r. ⌜ ((t : Table) → each (r .n) (sincePieces t (r .token)) ≡ onward t call answer) ⌝ }
+{
     match call {
-        Call::Actions(_) => places(answer.from, answer.to),
-        _ => 0,
+        Call::Actions(token) => Onward {
+            token,
+            n: places(answer.from, answer.to),
+        },
+        _ => Onward { token: 0, n: 0 },
     }
 }
 
 // How many places a range has.
-fn places(from: u32, to: u32) -> u32 {
+fn places(from: u32, to: u32) -> u32
+    ensures { λ r. ⌜ r ≡ to - from ⌝ }
+{
     if to < from {
         return 0;
     }
@@ -208,6 +230,7 @@ fn row(
     key: u32,
 ) -> usize
     requires { ⌜ 256 ≤ length (now out) ⌝ }
+    ensures { let rs = rowsOf lengths (rowsLent parents ranks owners amounts .entry) in λ r. ⌜ Said (now (out .entry)) (now (out .exit)) at (lookPieces lengths rs key) r ⌝ }
 {
     let start = room(out, at);
     if key >= longest_rows(lengths) {
@@ -236,6 +259,8 @@ fn live(
     logamounts: &[u64],
 ) -> usize
     requires { ⌜ 256 ≤ length (now out) ⌝ }
+    ensures { let t = tableLent parents ranks owners amounts logkinds logkeys logparents logranks logowners logamounts in
+        λ r. ⌜ Said (now (out .entry)) (now (out .exit)) at (livePieces lengths (lentOf lengths (t .entry state))) r ⌝ }
 {
     let start = room(out, at);
     let first = put_bytes(out, start, b"live rows");
@@ -279,6 +304,8 @@ fn dump(
     logamounts: &[u64],
 ) -> usize
     requires { ⌜ 256 ≤ length (now out) ⌝ }
+    ensures { let t = tableLent parents ranks owners amounts logkinds logkeys logparents logranks logowners logamounts in
+        λ r. ⌜ Said (now (out .entry)) (now (out .exit)) at (dumpPieces lengths (lentOf lengths (t .entry state))) r ⌝ }
 {
     let start = room(out, at);
     let first = put_bytes(out, start, b"dump rows");
@@ -323,6 +350,7 @@ fn memory(
     used: u32,
 ) -> usize
     requires { ⌜ 256 ≤ length (now out) ⌝ }
+    ensures { let rs = rowsOf lengths (rowsLent parents ranks owners amounts .entry) in let l = logOf lengths (logLent logkinds logkeys logparents logranks logowners logamounts .entry) in λ r. ⌜ Said (now (out .entry)) (now (out .exit)) at (memoryPieces rs l count used) r ⌝ }
 {
     let first = rows(out, at, lengths, parents, ranks, owners, amounts, count);
     let start = room(out, first);
@@ -337,7 +365,6 @@ fn memory(
         logranks,
         logowners,
         logamounts,
-        0,
         used,
     )
 }
@@ -345,6 +372,7 @@ fn memory(
 // The state and so many marks.
 fn stated(out: &mut [u8], at: usize, state: State, n: u32) -> usize
     requires { ⌜ 256 ≤ length (now out) ⌝ }
+    ensures { λ r. ⌜ Said (now (out .entry)) (now (out .exit)) at (statePieces state n) r ⌝ }
 {
     let start = room(out, at);
     let first = put_state(out, start, state);

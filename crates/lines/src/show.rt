@@ -1,5 +1,13 @@
-ghost use Prim.Native.Nat.{_≤_};
+ghost use mathlib.Core.Path.{_≡_};
+ghost use mathlib.Core.List.{[], _∷_};
+ghost use Prim.Native.Nat.{_≤_, _<_};
 ghost use lib.ListN.{length};
+ghost use Rattle.rules.specs.Contract.{rowsLent, logLent};
+ghost use Rattle.memory.specs.Cut.{front, within};
+ghost use Rattle.text.specs.Bytes.{bytes};
+ghost use Rattle.text.specs.Printed.{kindText};
+ghost use Rattle.lines.specs.Pieces.{Said};
+ghost use Rattle.lines.specs.Replies.{each, cellAt, rowsOf, logOf, oldLengths, rowPiece, rowPieces, entryPieces, markPieces};
 use crate::buffer::room;
 use rules::table::State;
 use text::command::Lengths;
@@ -9,14 +17,18 @@ use text::print::put_kind;
 use text::print::put_mark;
 use text::print::put_row;
 
-fn wide(number: u32) -> u64 {
+fn wide(number: u32) -> u64
+    ensures { λ r. ⌜ r ≡ number ⌝ }
+{
     number as u64
 }
 
 // What a part has at a place, if that is lent.
-pub fn cell32(part: &[u32], length: u32, i: u32) -> Cell {
+pub fn cell32(part: &[u32], lent: u32, i: u32) -> Cell
+    ensures { λ r. ⌜ r ≡ cellAt (front lent (now (part .entry))) i ⌝ }
+{
     let at = i as usize;
-    if i >= length {
+    if i >= lent {
         return Cell::Missing;
     }
     if at >= part.len() {
@@ -26,9 +38,11 @@ pub fn cell32(part: &[u32], length: u32, i: u32) -> Cell {
 }
 
 // The same for amounts.
-pub fn cell64(part: &[u64], length: u32, i: u32) -> Cell {
+pub fn cell64(part: &[u64], lent: u32, i: u32) -> Cell
+    ensures { λ r. ⌜ r ≡ cellAt (front lent (now (part .entry))) i ⌝ }
+{
     let at = i as usize;
-    if i >= length {
+    if i >= lent {
         return Cell::Missing;
     }
     if at >= part.len() {
@@ -49,6 +63,7 @@ pub fn row_cells(
     i: u32,
 ) -> usize
     requires { ⌜ 256 ≤ length (now out) ⌝ }
+    ensures { let rs = rowsOf lengths (rowsLent parents ranks owners amounts .entry) in λ r. ⌜ Said (now (out .entry)) (now (out .exit)) at (rowPiece rs i ∷ []) r ⌝ }
 {
     let parent = cell32(parents, lengths.parents, i);
     let rank = cell32(ranks, lengths.ranks, i);
@@ -61,6 +76,7 @@ pub fn row_cells(
 // A bar.
 pub fn bar(out: &mut [u8], at: usize) -> usize
     requires { ⌜ 256 ≤ length (now out) ⌝ }
+    ensures { λ r. ⌜ Said (now (out .entry)) (now (out .exit)) at (bytes " |" ∷ []) r ⌝ }
 {
     let start = room(out, at);
     put_bar(out, start)
@@ -78,6 +94,7 @@ pub fn rows(
     n: u32,
 ) -> usize
     requires { ⌜ 256 ≤ length (now out) ⌝ }
+    ensures { let rs = rowsOf lengths (rowsLent parents ranks owners amounts .entry) in λ r. ⌜ Said (now (out .entry)) (now (out .exit)) at (each n (rowPieces rs)) r ⌝ }
 {
     let mut end = at;
     let mut i = 0;
@@ -99,6 +116,7 @@ fn kind_cells(
     i: u32,
 ) -> usize
     requires { ⌜ 256 ≤ length (now out) ⌝ }
+    ensures { λ r. ⌜ Said (now (out .entry)) (now (out .exit)) at (kindText (cellAt (front (lengths .logkinds) (now (logkinds .entry))) i) (cellAt (front (lengths .logkeys) (now (logkeys .entry))) i) ∷ []) r ⌝ }
 {
     let kind = cell32(logkinds, lengths.logkinds, i);
     let key = cell32(logkeys, lengths.logkeys, i);
@@ -107,7 +125,9 @@ fn kind_cells(
 }
 
 // The lengths of the log's rows, as those of rows.
-fn old_rows(lengths: Lengths) -> Lengths {
+fn old_rows(lengths: Lengths) -> Lengths
+    ensures { λ r. ⌜ r ≡ oldLengths lengths ⌝ }
+{
     let mut old = lengths;
     old.parents = lengths.logparents;
     old.ranks = lengths.logranks;
@@ -116,7 +136,7 @@ fn old_rows(lengths: Lengths) -> Lengths {
     old
 }
 
-// Entries from one place up to another, a bar before each.
+// The first `n` entries, a bar before each.
 pub fn entries(
     out: &mut [u8],
     at: usize,
@@ -127,15 +147,15 @@ pub fn entries(
     logranks: &[u32],
     logowners: &[u32],
     logamounts: &[u64],
-    from: u32,
-    to: u32,
+    n: u32,
 ) -> usize
     requires { ⌜ 256 ≤ length (now out) ⌝ }
+    ensures { let l = logOf lengths (logLent logkinds logkeys logparents logranks logowners logamounts .entry) in λ r. ⌜ Said (now (out .entry)) (now (out .exit)) at (each n (entryPieces l)) r ⌝ }
 {
     let old = old_rows(lengths);
     let mut end = at;
-    let mut i = from;
-    while i < to {
+    let mut i = 0;
+    while i < n {
         let start = kind_cells(out, end, lengths, logkinds, logkeys, i);
         end = row_cells(
             out,
@@ -154,11 +174,10 @@ pub fn entries(
 
 // One mark, after a bar.
 fn one_mark(out: &mut [u8], at: usize, state: State, i: usize) -> usize
+    requires { ⌜ i < 32 ⌝ }
     requires { ⌜ 256 ≤ length (now out) ⌝ }
+    ensures { λ r. ⌜ Said (now (out .entry)) (now (out .exit)) at (markPieces state i) r ⌝ }
 {
-    if i >= 32 {
-        return at;
-    }
     let mark = state.marks[i];
     let start = room(out, at);
     put_mark(out, start, mark)
@@ -167,6 +186,7 @@ fn one_mark(out: &mut [u8], at: usize, state: State, i: usize) -> usize
 // The first `n` marks, and no more than there are.
 pub fn marks(out: &mut [u8], at: usize, state: State, n: u32) -> usize
     requires { ⌜ 256 ≤ length (now out) ⌝ }
+    ensures { λ r. ⌜ Said (now (out .entry)) (now (out .exit)) at (each (within n 32) (markPieces state)) r ⌝ }
 {
     let mut end = at;
     let mut i = 0;

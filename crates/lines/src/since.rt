@@ -5,6 +5,8 @@ ghost use lib.ListN.{length};
 ghost use Rattle.rules.specs.Contract.{tableLent};
 ghost use Rattle.actions.specs.View.{seen, lentAt};
 ghost use Rattle.memory.specs.Cut.{lentOf};
+ghost use Rattle.lines.specs.Pieces.{Said};
+ghost use Rattle.lines.specs.Replies.{each, numbersPieces, sincePieces};
 use crate::buffer::room;
 use memory::lent::lent;
 use rules::table::State;
@@ -62,13 +64,16 @@ pub fn lent_action<'a>(
     )
 }
 
-fn cell(number: u32) -> Cell {
+fn cell(number: u32) -> Cell
+    ensures { λ r. ⌜ r ≡ Cell.Number number ⌝ }
+{
     Cell::Number(number as u64)
 }
 
 // An entry's six numbers, after a bar.
 fn entry(out: &mut [u8], at: usize, numbers: Numbers) -> usize
     requires { ⌜ 256 ≤ length (now out) ⌝ }
+    ensures { λ r. ⌜ Said (now (out .entry)) (now (out .exit)) at (numbersPieces numbers) r ⌝ }
 {
     let old = numbers.old;
     let held = old.owner;
@@ -105,6 +110,8 @@ pub fn entries_since<'a>(
     n: u32,
 ) -> usize
     requires { ⌜ 256 ≤ length (now out) ⌝ }
+    ensures { let t = tableLent parents ranks owners amounts logkinds logkeys logparents logranks logowners logamounts in
+        λ r. ⌜ Said (now (out .entry)) (now (out .exit)) at (each n (sincePieces (lentOf lengths (t .entry state)) token)) r ⌝ }
 {
     let mut end = at;
     let mut i = 0;

@@ -1,21 +1,45 @@
--- `gather::gather` is safe and ends. Assumes nothing.
-use mathlib.Core.Path.{_≡_, sym}
-use Prim.Native.Nat.{ℕ, _+_, _-_, _≤_, _<_}
-use native.Mathlib.Omega.{arith}
+-- `gather::gather` meets its contract. The invariant: what is gathered from here on is what was to be gathered. Assumes nothing.
+use Prim.Native.Nat.{ℕ, _+_, _-_}
 use borrow.Author.Needs.{needs}
-use lib.ListN.{length, length-set}
-use lib.Seq.{length-take-le}
+use lib.ListN.{length, take, drop}
+use mathlib.Core.Path.{_≡_, refl, ap, _∙_}
+use native.Mathlib.Omega.{arith}
+use Rattle.lines.proofs.LineLaws.{stopped-at-count, stopped-at-end, fed, one-byte}
+use Rattle.lines.specs.Lines.{Line, Reached, line, gathering}
 use Rattle.lines.proofs.gather.gather.Statement.{statement}
 use Rattle.lines.proofs.gather.gather.Tie as tie
 
 abbrev Inv-loop : tie.InvT-loop
-Inv-loop line₀ n overlong input from count now₀ i₀ line now i = length line ≡ length line₀
+Inv-loop line₀ n overlong input from count kept₀ i₀ buffer kept i =
+    (length buffer ≡ length line₀)
+    × (gathering i (line buffer (kept .n) (kept .overlong)) (drop i (take count input)) ≡ gathering from (line line₀ n overlong) (drop from (take count input)))
 
 abbrev μ-loop : tie.MeasureT-loop
-μ-loop line₀ n overlong input from count now₀ i₀ line now i = count - i
+μ-loop line₀ n overlong input from count kept₀ i₀ buffer kept i = count - i
+
+loop-holds : tie.Need-loop-holds Inv-loop μ-loop
+loop-holds c = (search needs, refl)
+
+returns : tie.Need-returns Inv-loop μ-loop
+returns c = rw (c .gathered-at .ensures .0, c .gathered-at .ensures .1, c .gathered-at .ensures .2, c .gathered-at .ensures .3) (stopped-at-end (c .before .before .before .before .before .before .args .count) (c .before .before .before .before .before .before .args .input .now) (c .before .before .before .loop .i) (c .before .before .before .loop .line) (c .before .before .before .loop .kept .n) (c .before .before .before .loop .kept .overlong) (omega arith) ∙ c .before .before .before .loop .inv .1)
+
+returns-2 : tie.Need-returns-2 Inv-loop μ-loop
+returns-2 c = rw (c .gathered-at2 .ensures .0, c .gathered-at2 .ensures .1, c .gathered-at2 .ensures .2, c .gathered-at2 .ensures .3) (fed (c .before .before .before .before .before .before .before .before .args .count) (c .before .before .before .before .before .before .before .before .args .input .now) (c .before .before .before .before .before .loop .i) (c .before .before .before .before .before .loop .line) (c .before .before .before .before .before .loop .kept .n) (c .before .before .before .before .before .loop .kept .overlong) (omega arith) (omega arith) (c .before .if2 .taken) ∙ c .before .before .before .before .before .loop .inv .1)
+
+loop-again : tie.Need-loop-again Inv-loop μ-loop
+loop-again c = (
+  search needs,
+  ap {B = Reached} (λ (l : Line). gathering (c .before .before .before .before .before .before .before .before .loop .i + 1) l (drop (c .before .before .before .before .before .before .before .before .loop .i + 1) (take (c .before .before .before .before .before .before .before .before .before .before .before .args .count) (c .before .before .before .before .before .before .before .before .before .before .before .args .input .now)))) (c .before .before .gather-byte .ensures)
+      ∙ one-byte (c .before .before .before .before .before .before .before .before .before .before .before .args .count) (c .before .before .before .before .before .before .before .before .before .before .before .args .input .now) (c .before .before .before .before .before .before .before .before .loop .i) (c .before .before .before .before .before .before .before .before .loop .line) (c .before .before .before .before .before .before .before .before .loop .kept .n) (c .before .before .before .before .before .before .before .before .loop .kept .overlong) (omega arith) (omega arith) (c .before .before .before .before .if2 .left)
+      ∙ c .before .before .before .before .before .before .before .before .loop .inv .1,
+)
+
+returns-3 : tie.Need-returns-3 Inv-loop μ-loop
+returns-3 c = rw (c .gathered-at3 .ensures .0, c .gathered-at3 .ensures .1, c .gathered-at3 .ensures .2, c .gathered-at3 .ensures .3) (stopped-at-count (c .before .before .before .before .before .args .count) (c .before .before .before .before .before .args .input .now) (c .before .before .loop .i) (c .before .before .loop .line) (c .before .before .loop .kept .n) (c .before .before .loop .kept .overlong) (omega arith) ∙ c .before .before .loop .inv .1)
 
 pub gather-spec : {M : Type 1} → statement M
 gather-spec =
     tie.close
-    (tie.spec Inv-loop μ-loop (search needs) (search needs) (search needs) (λ c κs. search needs) (search needs) (search needs)
-    (search needs) (search needs) (search needs) (search needs) (search needs) (search needs))
+    (tie.spec Inv-loop μ-loop loop-holds (λ c κs. search needs) (search needs) returns (search needs) (search needs)
+    (λ c κs. search needs) (search needs) returns-2 (λ c κs. search needs) (search needs) (search needs) loop-again
+    (λ c κs. search needs) (search needs) returns-3)

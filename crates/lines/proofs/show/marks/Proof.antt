@@ -1,21 +1,43 @@
--- `show::marks` is safe and ends. Assumes nothing.
-use mathlib.Core.Path.{_≡_, sym}
-use Prim.Native.Nat.{ℕ, _+_, _-_, _≤_, _<_}
-use native.Mathlib.Omega.{arith}
+-- `show::marks` meets its contract. The invariant: so far the first `i` marks are printed. Assumes nothing.
+use Prim.Native.Nat.{ℕ, _-_, _≤_}
 use borrow.Author.Needs.{needs}
-use lib.ListN.{length, length-set}
-use lib.Seq.{length-take-le}
+use lib.ListN.{length}
+use mathlib.Core.Path.{_≡_}
+use native.Mathlib.Omega.{arith}
+use Rattle.lines.proofs.PieceLaws.{none, one-more, all}
+use Rattle.lines.proofs.ReplyLaws.{within-all, within-there}
+use Rattle.lines.specs.Pieces.{Said}
+use Rattle.lines.specs.Replies.{each, markPieces}
+use Rattle.memory.specs.Cut.{within}
 use Rattle.lines.proofs.show.marks.Statement.{statement}
 use Rattle.lines.proofs.show.marks.Tie as tie
 
 abbrev Inv-loop : tie.InvT-loop
-Inv-loop out₀ at state n end₀ i₀ out end i = (length out ≡ length out₀) × (i ≤ 32)
+Inv-loop out₀ at state n end₀ i₀ out end i =
+    (length out ≡ length out₀) × (i ≤ 32) × (i ≤ n) × Said out₀ out at (each i (markPieces state)) end
 
 abbrev μ-loop : tie.MeasureT-loop
 μ-loop out₀ at state n end₀ i₀ out end i = 32 - i
 
+loop-holds : tie.Need-loop-holds Inv-loop μ-loop
+loop-holds c = (search needs, search needs, search needs, none (markPieces (c .before .args .state)))
+
+returns : tie.Need-returns Inv-loop μ-loop
+returns c = all (c .before .before .loop .i) (within (c .before .before .before .before .args .n) 32) (markPieces (c .before .before .before .before .args .state)) (within-all (c .before .before .loop .i) (c .before .before .before .before .args .n) 32 (omega arith) (omega arith)) (c .before .before .loop .inv .3)
+
+loop-again : tie.Need-loop-again Inv-loop μ-loop
+loop-again c = (
+  search needs,
+  search needs,
+  search needs,
+  one-more (c .before .before .before .before .before .before .loop .i) (markPieces (c .before .before .before .before .before .before .before .before .args .state)) (c .before .before .before .before .before .before .loop .inv .3) (c .before .before .one-mark .ensures),
+)
+
+returns-2 : tie.Need-returns-2 Inv-loop μ-loop
+returns-2 c = all (c .before .loop .i) (within (c .before .before .before .args .n) 32) (markPieces (c .before .before .before .args .state)) (within-there (c .before .loop .i) (c .before .before .before .args .n) 32 (omega arith) (omega arith)) (c .before .loop .inv .3)
+
 pub marks-spec : {M : Type 1} → statement M
 marks-spec =
     tie.close
-    (tie.spec Inv-loop μ-loop (search needs) (search needs) (search needs) (search needs) (λ c κs. search needs) (search needs)
-    (search needs) (search needs) (search needs) (search needs))
+    (tie.spec Inv-loop μ-loop loop-holds (search needs) returns (search needs) (λ c κs. search needs) (search needs)
+    (search needs) loop-again (search needs) returns-2)

@@ -1,21 +1,43 @@
--- `show::rows` is safe and ends. Assumes nothing.
-use mathlib.Core.Path.{_≡_, sym}
-use Prim.Native.Nat.{ℕ, _+_, _-_, _≤_, _<_}
-use native.Mathlib.Omega.{arith}
+-- `show::rows` meets its contract. The invariant: so far the first `i` rows are printed. Assumes nothing.
+use Prim.Native.Nat.{ℕ, _-_, _≤_}
 use borrow.Author.Needs.{needs}
-use lib.ListN.{length, length-set}
-use lib.Seq.{length-take-le}
+use lib.ListN.{length}
+use mathlib.Core.Path.{_≡_}
+use native.Mathlib.Omega.{arith}
+use Rattle.lines.proofs.PieceLaws.{none, one-more, all, then}
+use Rattle.lines.specs.Pieces.{Said}
+use Rattle.lines.specs.Replies.{Pieces, each, rowsOf, rowPieces}
+use Rattle.rules.specs.Contract.{rowsNow}
 use Rattle.lines.proofs.show.rows.Statement.{statement}
 use Rattle.lines.proofs.show.rows.Tie as tie
 
 abbrev Inv-loop : tie.InvT-loop
-Inv-loop out₀ at lengths parents ranks owners amounts n end₀ i₀ out end i = (length out ≡ length out₀) × (i ≤ n)
+Inv-loop out₀ at lengths parents ranks owners amounts n end₀ i₀ out end i =
+    (length out ≡ length out₀)
+    × (i ≤ n)
+    × Said out₀ out at (each i (rowPieces (rowsOf lengths (record { parents = parents; ranks = ranks; owners = owners; amounts = amounts })))) end
 
 abbrev μ-loop : tie.MeasureT-loop
 μ-loop out₀ at lengths parents ranks owners amounts n end₀ i₀ out end i = n - i
 
+abbrev shown : tie.Start Inv-loop μ-loop → ℕ → Pieces
+shown e = let a = e .args in rowPieces (rowsOf (a .lengths) (rowsNow (a .parents) (a .ranks) (a .owners) (a .amounts)))
+
+loop-holds : tie.Need-loop-holds Inv-loop μ-loop
+loop-holds c = (search needs, search needs, none (shown (c .before .before .before .before .before)))
+
+loop-again : tie.Need-loop-again Inv-loop μ-loop
+loop-again c = (
+  search needs,
+  search needs,
+  one-more (c .before .before .before .before .before .before .before .before .before .loop .i) (shown (c .before .before .before .before .before .before .before .before .before .before .before .before .before .before .before)) (c .before .before .before .before .before .before .before .before .before .loop .inv .2) (then (c .before .before .before .before .before .before .bar .ensures) (c .before .before .row-cells .ensures)),
+)
+
+returns : tie.Need-returns Inv-loop μ-loop
+returns c = all (c .before .loop .i) (c .before .before .before .before .before .before .before .args .n) (shown (c .before .before .before .before .before .before .before)) (omega arith) (c .before .loop .inv .2)
+
 pub rows-spec : {M : Type 1} → statement M
 rows-spec =
     tie.close
-    (tie.spec Inv-loop μ-loop (search needs) (λ c κs. search needs) (λ c κs. search needs) (search needs) (search needs) (search needs)
-    (search needs) (search needs))
+    (tie.spec Inv-loop μ-loop loop-holds (λ c κs. search needs) (λ c κs. search needs) (search needs) (search needs)
+    loop-again (search needs) returns)

@@ -1,0 +1,16 @@
+-- `extent::in_use` meets its contract. Assumes nothing.
+use borrow.Author.Tests.{le-ltb, lt-ltb}
+use native.Mathlib.Omega.{arith}
+use Rattle.lines.proofs.extent.in_use.Statement.{statement}
+use Rattle.lines.proofs.extent.in_use.Tie as tie
+
+returns : tie.Need-returns
+returns c = rw (lt-ltb (c .before .args .longest) (c .before .args .number) (omega arith))
+
+returns-2 : tie.Need-returns-2
+returns-2 c = rw (le-ltb (c .before .args .longest) (c .before .args .number) (omega arith))
+
+pub in-use-spec : {M : Type 1} → statement M
+in-use-spec =
+    tie.close
+    (tie.spec returns returns-2)

@@ -1,0 +1,13 @@
+-- `say::error` meets its contract. Assumes nothing.
+use borrow.Author.Needs.{needs}
+use Rattle.lines.proofs.PieceLaws.{piece}
+use Rattle.lines.proofs.say.error.Statement.{statement}
+use Rattle.lines.proofs.say.error.Tie as tie
+
+returns : tie.Need-returns
+returns c = piece (c .before .before .before .before .room .ensures .0) (c .before .before .put-error .ensures .0)
+
+pub error-spec : {M : Type 1} → statement M
+error-spec =
+    tie.close
+    (tie.spec (λ c κs. search needs) (λ c κs. search needs) (search needs) returns)

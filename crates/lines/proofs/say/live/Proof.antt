@@ -1,0 +1,27 @@
+-- `say::live` meets its contract. Assumes nothing.
+use borrow.Author.Needs.{needs}
+use Rattle.lines.proofs.PieceLaws.{piece, saying, then}
+use Rattle.lines.proofs.ReplyLaws.{live-said}
+use Rattle.memory.specs.Cut.{lentOf}
+use Rattle.rules.specs.Contract.{tableNow}
+use Rattle.rules.specs.Lent.{Table}
+use Rattle.lines.proofs.say.live.Statement.{statement}
+use Rattle.lines.proofs.say.live.Tie as tie
+
+abbrev lentTable : tie.Start → Table
+lentTable e =
+    let a = e .args in
+    lentOf (a .lengths)
+    (tableNow (a .parents) (a .ranks) (a .owners) (a .amounts) (a .logkinds) (a .logkeys) (a .logparents) (a .logranks) (a .logowners) (a .logamounts)
+    (a .state))
+
+returns : tie.Need-returns
+returns c =
+    saying (live-said (c .before .before .before .before .before .before .before .before .before .before .before .before .before .before .before .before .before .before .before .before .before .before .before .before .before .before .before .before .before .before .args .lengths) (lentTable (c .before .before .before .before .before .before .before .before .before .before .before .before .before .before .before .before .before .before .before .before .before .before .before .before .before .before .before .before .before .before)) _ _ (c .before .before .before .before .before .before .before .before .before .before .before .longest-rows .ensures) (c .before .before .before .before .before .before .before .before .before .longest-log .ensures) _ _ (c .before .before .before .before .before .before .before .before .before .before .in-use .ensures) (c .before .before .before .before .before .before .before .before .in-use2 .ensures))
+    (then (piece (c .before .before .before .before .before .before .before .before .before .before .before .before .before .before .before .before .before .room .ensures .0) (c .before .before .before .before .before .before .before .before .before .before .before .before .before .before .put-bytes .ensures)) (then (c .before .before .before .before .before .before .memory .ensures) (c .before .before .stated .ensures)))
+
+pub live-spec : {M : Type 1} → statement M
+live-spec =
+    tie.close
+    (tie.spec (λ c κs. search needs) (search needs) (λ c κs. search needs) (λ c κs. search needs) (λ c κs. search needs)
+    (λ c κs. search needs) (λ c κs. search needs) (λ c κs. search needs) (λ c κs. search needs) (search needs) returns)
