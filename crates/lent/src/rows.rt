@@ -44,7 +44,7 @@ fn quick_plan(
         λ r. ⌜ Fits count opened used room (rowPlan (rows .entry) count call) r ⌝ }
 {
     if opened > 0 {
-        if room - used as usize < 2 {
+        if room - (used as usize) < 2 {
             return Quick::Long;
         }
     }
@@ -79,7 +79,22 @@ fn long_way(
             used,
         };
     }
-    let more = carry::out::carry_out(parents, ranks, owners, amounts, logkinds, logkeys, logparents, logranks, logowners, logamounts, count, opened, used, todo);
+    let more = carry::out::carry_out(
+        parents,
+        ranks,
+        owners,
+        amounts,
+        logkinds,
+        logkeys,
+        logparents,
+        logranks,
+        logowners,
+        logamounts,
+        count,
+        opened,
+        used,
+        todo,
+    );
     let answer = todo.answer;
     Ran { answer, used: more }
 }
@@ -104,19 +119,73 @@ pub fn by_numbers(
     ensures { let t = tableLent parents ranks owners amounts logkinds logkeys logparents logranks logowners logamounts in
         λ r. ⌜ ((l : ℕ) (ms : List Mark) → outcome (r .answer) (t .exit (counted count (r .used) opened l ms)) ≡ step (t .entry (counted count used opened l ms)) (callOf call)) ⌝ }
 {
-    if bad_numbers(count, used, opened, parents.len(), ranks.len(), owners.len(), amounts.len(), logkinds.len(), logkeys.len(), logparents.len(), logranks.len(), logowners.len(), logamounts.len()) {
+    if bad_numbers(
+        count,
+        used,
+        opened,
+        parents.len(),
+        ranks.len(),
+        owners.len(),
+        amounts.len(),
+        logkinds.len(),
+        logkeys.len(),
+        logparents.len(),
+        logranks.len(),
+        logowners.len(),
+        logamounts.len(),
+    ) {
         return Ran {
             answer: refusal(BAD_STATE),
             used,
         };
     }
-    let plan = quick_plan(parents, ranks, owners, amounts, count, opened, used, logkinds.len(), call);
+    let plan = quick_plan(
+        parents,
+        ranks,
+        owners,
+        amounts,
+        count,
+        opened,
+        used,
+        logkinds.len(),
+        call,
+    );
     match plan {
         Quick::Short(answer, end) => {
-            let more = carry::out::finish(parents, ranks, owners, amounts, logkinds, logkeys, logparents, logranks, logowners, logamounts, count, opened, used, end);
+            let more = carry::out::finish(
+                parents,
+                ranks,
+                owners,
+                amounts,
+                logkinds,
+                logkeys,
+                logparents,
+                logranks,
+                logowners,
+                logamounts,
+                count,
+                opened,
+                used,
+                end,
+            );
             Ran { answer, used: more }
         }
-        Quick::Long => long_way(parents, ranks, owners, amounts, logkinds, logkeys, logparents, logranks, logowners, logamounts, count, opened, used, call),
+        Quick::Long => long_way(
+            parents,
+            ranks,
+            owners,
+            amounts,
+            logkinds,
+            logkeys,
+            logparents,
+            logranks,
+            logowners,
+            logamounts,
+            count,
+            opened,
+            used,
+            call,
+        ),
     }
 }
 
@@ -142,7 +211,22 @@ pub fn on_rows(
     let count = numbers[0];
     let used = numbers[1];
     let opened = numbers[2];
-    let ran = by_numbers(parents, ranks, owners, amounts, logkinds, logkeys, logparents, logranks, logowners, logamounts, count, opened, used, call);
+    let ran = by_numbers(
+        parents,
+        ranks,
+        owners,
+        amounts,
+        logkinds,
+        logkeys,
+        logparents,
+        logranks,
+        logowners,
+        logamounts,
+        count,
+        opened,
+        used,
+        call,
+    );
     numbers[1] = ran.used;
     ran.answer
 }
