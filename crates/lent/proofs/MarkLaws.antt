@@ -87,7 +87,7 @@ module _ (ns ss : List ℕ) (n : length ns ≡ NUMBERS) (s : length ss ≡ SERIA
           outer-done p q =
               ap (λ (x : Answer). answered x (stateOf (set (set ns 1 0) 2 0) ss)) q
               ∙ ap (λ (x : State). answered (refusal DONE) x)
-                (emptied-set 0 0 ∙ ap (counting now-state (getD ns 0 0) 0) (let z : 0 ≡ getD ns 2 0 - 1 = omega (arith, only) in z))
+              (emptied-set 0 0 ∙ ap (counting now-state (getD ns 0 0) 0) (let z : 0 ≡ getD ns 2 0 - 1 = omega (arith, only) in z))
               ∙ commit-outer now-state token i fits only (omega (arith, log-len))
 
   -- ---- snapshot
@@ -153,12 +153,12 @@ module _ (ns ss : List ℕ) (n : length ns ≡ NUMBERS) (s : length ss ≡ SERIA
         (getD-set-other (set ss 0 serial) (o + 1) 0 serial 0 (λ q. omega arith) ∙ getD-set-same ss 0 serial 0 (omega arith))
         (length-set (marksOf (drop 3 ns) (drop 1 ss)) o (mark serial (getD ns 1 0) (getD ns 0 0)) ∙ marks-32 ns ss n s)
         (λ k b.
-          elim (ℕ-discrete k o) [
-            yes q ↦ rw q (getD-set-same (marksOf (drop 3 ns) (drop 1 ss)) o (mark serial (getD ns 1 0) (getD ns 0 0)) (mark 0 0 0) (omega (arith, marks-32 ns ss n s)) ∙ sym new-mark)
+        elim (ℕ-discrete k o) [
+          | yes q ↦ rw q (getD-set-same (marksOf (drop 3 ns) (drop 1 ss)) o (mark serial (getD ns 1 0) (getD ns 0 0)) (mark 0 0 0) (omega (arith, marks-32 ns ss n s)) ∙ sym new-mark)
           | no d ↦
               getD-set-other (marksOf (drop 3 ns) (drop 1 ss)) o k (mark serial (getD ns 1 0) (getD ns 0 0)) (mark 0 0 0) d
               ∙ marks-read ns ss n s k b ∙ sym (old-mark k d)
-          ])
+        ])
 
     pub snapshot-made : (getD ss 0 0 ≡ MAX-U64 → ⊥) → (a : Answer) → a ≡ opened-as (getD ss 0 0 + 1)
         → answered a (stateOf numbersMarked serialsMarked) ≡ snapshot now-state

@@ -3,3 +3,4 @@ pub mod keys;
 pub mod marks;
 pub mod rows;
 pub mod state;
+pub mod tokens;
