@@ -1,0 +1,2 @@
+-- A call over the state's numbers alone.
+pub mod Counted

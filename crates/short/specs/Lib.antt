@@ -1,0 +1,3 @@
+-- Walks of at most one redirect, and the plans made of them.
+pub mod Near
+pub mod Quick
