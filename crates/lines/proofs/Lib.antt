@@ -1,3 +1,4 @@
 pub mod PieceLaws
 pub mod ReplyLaws
 pub mod LineLaws
+pub mod Examples

@@ -1,13 +1,16 @@
 -- Laws of pieces that are printed. Assumes nothing.
 use mathlib.Core.List.{List, [], _∷_, _++_}
 use mathlib.Core.Path.{_≡_, refl, ap, sym, _∙_}
-use Prim.Native.Nat.{ℕ, suc, _+_}
+use Prim.Native.Nat.{ℕ, suc, _+_, _≤_}
 use native.Mathlib.Numerals.{add-one}
 use lib.ListN.{length}
 use lib.Seq.{paste}
+use Rattle.rules.specs.Lent.{Table}
 use Rattle.text.specs.Printed.{Printed}
+use Rattle.text.specs.declared.command.Lengths.{Lengths}
+use Rattle.memory.specs.declared.reply.Reply.{Reply}
 use Rattle.lines.specs.Pieces.{Page, page, placed, printing, Said}
-use Rattle.lines.specs.Replies.{Pieces, each}
+use Rattle.lines.specs.Replies.{Pieces, each, replyPieces}
 
 -- ---- pieces one after the other
 
@@ -39,6 +42,15 @@ then {before} {middle} {after} {xs} {ys} {at} p q =
 -- the same pieces in other words
 pub saying : {before after : List ℕ} {xs ys : Pieces} {at end : ℕ} → xs ≡ ys → Said before after at xs end → Said before after at ys end
 saying e p = rw e at p
+
+-- what is printed for a reply, where it is told which one it is
+pub replied : {before after : List ℕ} {at end : ℕ} {r told : Reply} (n : Lengths) (t : Table) (line : ℕ) → r ≡ told
+    → Said before after at (replyPieces n t told line) end → Said before after at (replyPieces n t r line) end
+replied n t line e p = rw e p
+
+-- a buffer keeps its length, and so the room that it has
+pub roomy : {now before : ℕ} → now ≡ before → 256 ≤ before → 256 ≤ now
+roomy e h = rw e h
 
 -- ---- so many
 

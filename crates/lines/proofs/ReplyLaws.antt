@@ -130,7 +130,7 @@ unfolding onward
 entries-follow t call a token n e k = rw (e, k)
 
 module _ (n : Lengths) (rs : Rows) (key most : ℕ) (e : most ≡ mostRows n) where
-  pub no-row : most ≤ key → _≡_ {A = Pieces} ((bytes "none" ++ FEED) ∷ []) (lookPieces n rs key)
+  pub no-row : most ≤ key → _≡_ {A = Pieces} (bytes "none\n" ∷ []) (lookPieces n rs key)
   no-row h = rw (le-ltb key (mostRows n) (omega arith))
 
   pub a-row : key < most → _≡_ {A = Pieces} (bytes "row" ∷ rowPiece rs key ∷ FEED ∷ []) (lookPieces n rs key)

@@ -40,7 +40,7 @@ use Rattle.memory.specs.declared.reply.Reply.the-variants as reply
 abbrev pub Pieces : Type 0
 Pieces = List (List ℕ)
 
--- "Every other line prints exactly one line": all but an error's, which has its own, end here.
+-- "Every other line prints exactly one line": the line feed after a reply of several pieces.
 abbrev pub FEED : List ℕ
 FEED = 10 ∷ []
 
@@ -147,7 +147,7 @@ mostEntries n =
 
 -- "row PARENT RANK OWNER AMOUNT, or none past what is lent"
 abbrev pub lookPieces : Lengths → Rows → ℕ → Pieces
-lookPieces n rs key = cond (ltb key (mostRows n)) (bytes "row" ∷ rowPiece rs key ∷ FEED ∷ []) ((bytes "none" ++ FEED) ∷ [])
+lookPieces n rs key = cond (ltb key (mostRows n)) (bytes "row" ∷ rowPiece rs key ∷ FEED ∷ []) (bytes "none\n" ∷ [])
 
 -- ".. rows | P R O A | .. log | KIND KEY P R O A | .."
 abbrev pub memoryPieces : Rows → Log → ℕ → ℕ → Pieces
@@ -173,8 +173,8 @@ dumpPieces n t = bytes "dump rows" ∷ (memoryPieces (t .rows) (t .log) (mostRow
 unfoldable pub replyPieces : Lengths → Table → Reply → ℕ → Pieces
 replyPieces n t reply.Silent line = []
 replyPieces n t reply.Error line = errorText line ∷ []
-replyPieces n t reply.Ok line = (bytes "ok" ++ FEED) ∷ []
-replyPieces n t reply.Table line = (bytes "table" ++ FEED) ∷ []
+replyPieces n t reply.Ok line = bytes "ok\n" ∷ []
+replyPieces n t reply.Table line = bytes "table\n" ∷ []
 replyPieces n t (reply.Answer call a) line = answerPieces (lentOf n t) call a
 replyPieces n t (reply.Row key) line = lookPieces n (lentOf n t .rows) key
 replyPieces n t reply.Live line = livePieces n (lentOf n t)

@@ -1,5 +1,5 @@
 ghost use mathlib.Core.Path.{_≡_};
-ghost use mathlib.Core.List.{[], _∷_, _++_};
+ghost use mathlib.Core.List.{[], _∷_};
 ghost use Prim.Native.Nat.{_-_, _≤_};
 ghost use lib.ListN.{length};
 ghost use Rattle.rules.specs.Contract.{rowsLent, logLent, tableLent};
@@ -130,7 +130,7 @@ fn error(out: &mut [u8], at: usize, line: u64) -> usize
 
 fn ok(out: &mut [u8], at: usize) -> usize
     requires { ⌜ 256 ≤ length (now out) ⌝ }
-    ensures { λ r. ⌜ Said (now (out .entry)) (now (out .exit)) at ((bytes "ok" ++ FEED) ∷ []) r ⌝ }
+    ensures { λ r. ⌜ Said (now (out .entry)) (now (out .exit)) at (bytes "ok\n" ∷ []) r ⌝ }
 {
     let start = room(out, at);
     put_bytes(out, start, b"ok\n")
@@ -138,7 +138,7 @@ fn ok(out: &mut [u8], at: usize) -> usize
 
 fn table(out: &mut [u8], at: usize) -> usize
     requires { ⌜ 256 ≤ length (now out) ⌝ }
-    ensures { λ r. ⌜ Said (now (out .entry)) (now (out .exit)) at ((bytes "table" ++ FEED) ∷ []) r ⌝ }
+    ensures { λ r. ⌜ Said (now (out .entry)) (now (out .exit)) at (bytes "table\n" ∷ []) r ⌝ }
 {
     let start = room(out, at);
     put_bytes(out, start, b"table\n")

@@ -8,10 +8,14 @@ use Rattle.lines.proofs.buffer.room.Statement.{statement}
 use Rattle.lines.proofs.buffer.room.Tie as tie
 
 returns : tie.Need-returns
-returns c = (rw (le-ltb (length (c .before .before .args .out .now) - 256) (c .before .before .args .at) (omega arith)), search needs)
+returns c =
+    let start = c .before .before in
+    (rw (le-ltb (length (start .args .out .now) - 256) (start .args .at) (omega arith)), search needs)
 
 returns-2 : tie.Need-returns-2
-returns-2 c = (rw (lt-ltb (length (c .before .before .before .args .out .now) - 256) (c .before .before .before .args .at) (omega arith)), search needs)
+returns-2 c =
+    let start = c .before .before .before in
+    (rw (lt-ltb (length (start .args .out .now) - 256) (start .args .at) (omega arith)), search needs)
 
 pub room-spec : {M : Type 1} → statement M
 room-spec =

@@ -5,10 +5,14 @@ use Rattle.lines.proofs.extent.in_use.Statement.{statement}
 use Rattle.lines.proofs.extent.in_use.Tie as tie
 
 returns : tie.Need-returns
-returns c = rw (lt-ltb (c .before .args .longest) (c .before .args .number) (omega arith))
+returns c =
+    let start = c .before in
+    rw (lt-ltb (start .args .longest) (start .args .number) (omega arith))
 
 returns-2 : tie.Need-returns-2
-returns-2 c = rw (le-ltb (c .before .args .longest) (c .before .args .number) (omega arith))
+returns-2 c =
+    let start = c .before in
+    rw (le-ltb (start .args .longest) (start .args .number) (omega arith))
 
 pub in-use-spec : {M : Type 1} → statement M
 in-use-spec =

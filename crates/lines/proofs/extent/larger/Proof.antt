@@ -5,10 +5,14 @@ use Rattle.lines.proofs.extent.larger.Statement.{statement}
 use Rattle.lines.proofs.extent.larger.Tie as tie
 
 returns : tie.Need-returns
-returns c = rw (lt-ltb (c .before .args .a) (c .before .args .b) (omega arith))
+returns c =
+    let start = c .before in
+    rw (lt-ltb (start .args .a) (start .args .b) (omega arith))
 
 returns-2 : tie.Need-returns-2
-returns-2 c = rw (le-ltb (c .before .args .a) (c .before .args .b) (omega arith))
+returns-2 c =
+    let start = c .before in
+    rw (le-ltb (start .args .a) (start .args .b) (omega arith))
 
 pub larger-spec : {M : Type 1} → statement M
 larger-spec =

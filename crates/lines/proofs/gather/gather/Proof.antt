@@ -21,21 +21,32 @@ loop-holds : tie.Need-loop-holds Inv-loop μ-loop
 loop-holds c = (search needs, refl)
 
 returns : tie.Need-returns Inv-loop μ-loop
-returns c = rw (c .gathered-at .ensures .0, c .gathered-at .ensures .1, c .gathered-at .ensures .2, c .gathered-at .ensures .3) (stopped-at-end (c .before .before .before .before .before .before .args .count) (c .before .before .before .before .before .before .args .input .now) (c .before .before .before .loop .i) (c .before .before .before .loop .line) (c .before .before .before .loop .kept .n) (c .before .before .before .loop .kept .overlong) (omega arith) ∙ c .before .before .before .loop .inv .1)
+returns c =
+    let start = c .before .before .before .before .before .before in
+    let loop = c .before .before .before .loop in
+    rw (c .gathered-at .ensures .0, c .gathered-at .ensures .1, c .gathered-at .ensures .2, c .gathered-at .ensures .3) (stopped-at-end (start .args .count) (start .args .input .now) (loop .i) (loop .line) (loop .kept .n) (loop .kept .overlong) (omega arith) ∙ loop .inv .1)
 
 returns-2 : tie.Need-returns-2 Inv-loop μ-loop
-returns-2 c = rw (c .gathered-at2 .ensures .0, c .gathered-at2 .ensures .1, c .gathered-at2 .ensures .2, c .gathered-at2 .ensures .3) (fed (c .before .before .before .before .before .before .before .before .args .count) (c .before .before .before .before .before .before .before .before .args .input .now) (c .before .before .before .before .before .loop .i) (c .before .before .before .before .before .loop .line) (c .before .before .before .before .before .loop .kept .n) (c .before .before .before .before .before .loop .kept .overlong) (omega arith) (omega arith) (c .before .if2 .taken) ∙ c .before .before .before .before .before .loop .inv .1)
+returns-2 c =
+    let start = c .before .before .before .before .before .before .before .before in
+    let loop = c .before .before .before .before .before .loop in
+    rw (c .gathered-at2 .ensures .0, c .gathered-at2 .ensures .1, c .gathered-at2 .ensures .2, c .gathered-at2 .ensures .3) (fed (start .args .count) (start .args .input .now) (loop .i) (loop .line) (loop .kept .n) (loop .kept .overlong) (omega arith) (omega arith) (c .before .if2 .taken) ∙ loop .inv .1)
 
 loop-again : tie.Need-loop-again Inv-loop μ-loop
-loop-again c = (
-  search needs,
-  ap {B = Reached} (λ (l : Line). gathering (c .before .before .before .before .before .before .before .before .loop .i + 1) l (drop (c .before .before .before .before .before .before .before .before .loop .i + 1) (take (c .before .before .before .before .before .before .before .before .before .before .before .args .count) (c .before .before .before .before .before .before .before .before .before .before .before .args .input .now)))) (c .before .before .gather-byte .ensures)
-      ∙ one-byte (c .before .before .before .before .before .before .before .before .before .before .before .args .count) (c .before .before .before .before .before .before .before .before .before .before .before .args .input .now) (c .before .before .before .before .before .before .before .before .loop .i) (c .before .before .before .before .before .before .before .before .loop .line) (c .before .before .before .before .before .before .before .before .loop .kept .n) (c .before .before .before .before .before .before .before .before .loop .kept .overlong) (omega arith) (omega arith) (c .before .before .before .before .if2 .left)
-      ∙ c .before .before .before .before .before .before .before .before .loop .inv .1,
-)
+loop-again c =
+    let start = c .before .before .before .before .before .before .before .before .before .before .before in
+    let loop = c .before .before .before .before .before .before .before .before .loop in (
+      search needs,
+      ap {B = Reached} (λ (l : Line). gathering (loop .i + 1) l (drop (loop .i + 1) (take (start .args .count) (start .args .input .now)))) (c .before .before .gather-byte .ensures)
+          ∙ one-byte (start .args .count) (start .args .input .now) (loop .i) (loop .line) (loop .kept .n) (loop .kept .overlong) (omega arith) (omega arith) (c .before .before .before .before .if2 .left)
+          ∙ loop .inv .1,
+    )
 
 returns-3 : tie.Need-returns-3 Inv-loop μ-loop
-returns-3 c = rw (c .gathered-at3 .ensures .0, c .gathered-at3 .ensures .1, c .gathered-at3 .ensures .2, c .gathered-at3 .ensures .3) (stopped-at-count (c .before .before .before .before .before .args .count) (c .before .before .before .before .before .args .input .now) (c .before .before .loop .i) (c .before .before .loop .line) (c .before .before .loop .kept .n) (c .before .before .loop .kept .overlong) (omega arith) ∙ c .before .before .loop .inv .1)
+returns-3 c =
+    let start = c .before .before .before .before .before in
+    let loop = c .before .before .loop in
+    rw (c .gathered-at3 .ensures .0, c .gathered-at3 .ensures .1, c .gathered-at3 .ensures .2, c .gathered-at3 .ensures .3) (stopped-at-count (start .args .count) (start .args .input .now) (loop .i) (loop .line) (loop .kept .n) (loop .kept .overlong) (omega arith) ∙ loop .inv .1)
 
 pub gather-spec : {M : Type 1} → statement M
 gather-spec =

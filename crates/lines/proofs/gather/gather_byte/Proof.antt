@@ -6,10 +6,14 @@ use Rattle.lines.proofs.gather.gather_byte.Statement.{statement}
 use Rattle.lines.proofs.gather.gather_byte.Tie as tie
 
 returns : tie.Need-returns
-returns c = not-kept (c .before .args .line .now) (c .before .args .kept .n) (c .before .args .byte) (c .before .args .kept .overlong) (omega arith)
+returns c =
+    let start = c .before in
+    not-kept (start .args .line .now) (start .args .kept .n) (start .args .byte) (start .args .kept .overlong) (omega arith)
 
 returns-2 : tie.Need-returns-2
-returns-2 c = kept (c .before .args .line .now) (c .before .args .kept .n) (c .before .args .byte) (c .before .args .kept .overlong) (omega arith)
+returns-2 c =
+    let start = c .before in
+    kept (start .args .line .now) (start .args .kept .n) (start .args .byte) (start .args .kept .overlong) (omega arith)
 
 pub gather-byte-spec : {M : Type 1} → statement M
 gather-byte-spec =

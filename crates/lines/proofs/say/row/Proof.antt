@@ -13,11 +13,14 @@ abbrev lentRows : tie.Start → Rows
 lentRows e = let a = e .args in rowsOf (a .lengths) (rowsNow (a .parents) (a .ranks) (a .owners) (a .amounts))
 
 returns : tie.Need-returns
-returns c = saying (no-row (c .before .before .before .before .before .before .before .before .before .before .before .before .before .before .args .lengths) (lentRows (c .before .before .before .before .before .before .before .before .before .before .before .before .before .before)) (c .before .before .before .before .before .before .before .before .before .before .before .before .before .before .args .key) _ (c .before .before .before .before .before .before .longest-rows .ensures) (omega arith)) (piece (c .before .before .before .before .before .before .before .room .ensures .0) (c .before .before .put-bytes .ensures))
+returns c =
+    let start = c .before .before .before .before .before .before .before .before .before .before .before .before .before .before in
+    saying (no-row (start .args .lengths) (lentRows start) (start .args .key) _ (c .before .before .before .before .before .before .longest-rows .ensures) (omega arith)) (piece (c .before .before .before .before .before .before .before .room .ensures .0) (c .before .before .put-bytes .ensures))
 
 returns-2 : tie.Need-returns-2
 returns-2 c =
-    saying (a-row (c .before .before .before .before .before .before .before .before .before .before .before .before .before .before .before .before .before .before .before .before .before .before .args .lengths) (lentRows (c .before .before .before .before .before .before .before .before .before .before .before .before .before .before .before .before .before .before .before .before .before .before)) (c .before .before .before .before .before .before .before .before .before .before .before .before .before .before .before .before .before .before .before .before .before .before .args .key) _ (c .before .before .before .before .before .before .before .before .before .before .before .before .before .before .longest-rows .ensures) (omega arith))
+    let start = c .before .before .before .before .before .before .before .before .before .before .before .before .before .before .before .before .before .before .before .before .before .before in
+    saying (a-row (start .args .lengths) (lentRows start) (start .args .key) _ (c .before .before .before .before .before .before .before .before .before .before .before .before .before .before .longest-rows .ensures) (omega arith))
     (then (piece (c .before .before .before .before .before .before .before .before .before .before .before .before .before .before .before .room .ensures .0) (c .before .before .before .before .before .before .before .before .before .before .put-bytes2 .ensures)) (then (c .before .before .before .before .before .before .row-cells .ensures) (c .before .before .feed .ensures)))
 
 pub row-spec : {M : Type 1} → statement M

@@ -6,13 +6,19 @@ use Rattle.lines.proofs.show.cell64.Statement.{statement}
 use Rattle.lines.proofs.show.cell64.Tie as tie
 
 returns : tie.Need-returns
-returns c = past-lent (c .before .args .lent) (c .before .args .part .now) (c .before .args .i) (omega arith)
+returns c =
+    let start = c .before in
+    past-lent (start .args .lent) (start .args .part .now) (start .args .i) (omega arith)
 
 returns-2 : tie.Need-returns-2
-returns-2 c = past-part (c .before .before .args .lent) (c .before .before .args .part .now) (c .before .before .args .i) (omega arith)
+returns-2 c =
+    let start = c .before .before in
+    past-part (start .args .lent) (start .args .part .now) (start .args .i) (omega arith)
 
 returns-3 : tie.Need-returns-3
-returns-3 c = in-lent (c .before .before .before .args .lent) (c .before .before .before .args .part .now) (c .before .before .before .args .i) (omega arith) (omega arith)
+returns-3 c =
+    let start = c .before .before .before in
+    in-lent (start .args .lent) (start .args .part .now) (start .args .i) (omega arith) (omega arith)
 
 pub cell64-spec : {M : Type 1} → statement M
 cell64-spec =

@@ -29,14 +29,18 @@ loop-holds : tie.Need-loop-holds Inv-loop μ-loop
 loop-holds c = (search needs, search needs, none (shown (c .before .before .before .before .before .before .before .before)))
 
 loop-again : tie.Need-loop-again Inv-loop μ-loop
-loop-again c = (
-  search needs,
-  search needs,
-  one-more (c .before .before .before .before .before .before .before .before .before .loop .i) (shown (c .before .before .before .before .before .before .before .before .before .before .before .before .before .before .before .before .before .before)) (c .before .before .before .before .before .before .before .before .before .loop .inv .2) (then (c .before .before .before .before .before .before .kind-cells .ensures) (rw (c .before .before .before .before .before .before .before .before .before .before .old-rows .ensures) at (c .before .before .row-cells .ensures))),
-)
+loop-again c =
+    let loop = c .before .before .before .before .before .before .before .before .before .loop in (
+      search needs,
+      search needs,
+      one-more (loop .i) (shown (c .before .before .before .before .before .before .before .before .before .before .before .before .before .before .before .before .before .before)) (loop .inv .2) (then (c .before .before .before .before .before .before .kind-cells .ensures) (rw (c .before .before .before .before .before .before .before .before .before .before .old-rows .ensures) at (c .before .before .row-cells .ensures))),
+    )
 
 returns : tie.Need-returns Inv-loop μ-loop
-returns c = all (c .before .loop .i) (c .before .before .before .before .before .before .before .before .before .before .args .n) (shown (c .before .before .before .before .before .before .before .before .before .before)) (omega arith) (c .before .loop .inv .2)
+returns c =
+    let start = c .before .before .before .before .before .before .before .before .before .before in
+    let loop = c .before .loop in
+    all (loop .i) (start .args .n) (shown start) (omega arith) (loop .inv .2)
 
 pub entries-spec : {M : Type 1} → statement M
 entries-spec =

@@ -23,18 +23,25 @@ loop-holds : tie.Need-loop-holds Inv-loop μ-loop
 loop-holds c = (search needs, search needs, search needs, none (markPieces (c .before .args .state)))
 
 returns : tie.Need-returns Inv-loop μ-loop
-returns c = all (c .before .before .loop .i) (within (c .before .before .before .before .args .n) 32) (markPieces (c .before .before .before .before .args .state)) (within-all (c .before .before .loop .i) (c .before .before .before .before .args .n) 32 (omega arith) (omega arith)) (c .before .before .loop .inv .3)
+returns c =
+    let start = c .before .before .before .before in
+    let loop = c .before .before .loop in
+    all (loop .i) (within (start .args .n) 32) (markPieces (start .args .state)) (within-all (loop .i) (start .args .n) 32 (omega arith) (omega arith)) (loop .inv .3)
 
 loop-again : tie.Need-loop-again Inv-loop μ-loop
-loop-again c = (
-  search needs,
-  search needs,
-  search needs,
-  one-more (c .before .before .before .before .before .before .loop .i) (markPieces (c .before .before .before .before .before .before .before .before .args .state)) (c .before .before .before .before .before .before .loop .inv .3) (c .before .before .one-mark .ensures),
-)
+loop-again c =
+    let loop = c .before .before .before .before .before .before .loop in (
+      search needs,
+      search needs,
+      search needs,
+      one-more (loop .i) (markPieces (c .before .before .before .before .before .before .before .before .args .state)) (loop .inv .3) (c .before .before .one-mark .ensures),
+    )
 
 returns-2 : tie.Need-returns-2 Inv-loop μ-loop
-returns-2 c = all (c .before .loop .i) (within (c .before .before .before .args .n) 32) (markPieces (c .before .before .before .args .state)) (within-there (c .before .loop .i) (c .before .before .before .args .n) 32 (omega arith) (omega arith)) (c .before .loop .inv .3)
+returns-2 c =
+    let start = c .before .before .before in
+    let loop = c .before .loop in
+    all (loop .i) (within (start .args .n) 32) (markPieces (start .args .state)) (within-there (loop .i) (start .args .n) 32 (omega arith) (omega arith)) (loop .inv .3)
 
 pub marks-spec : {M : Type 1} → statement M
 marks-spec =

@@ -40,18 +40,25 @@ lentTable e =
     (a .state))
 
 loop-holds : tie.Need-loop-holds Inv-loop μ-loop
-loop-holds c = (search needs, search needs, none (sincePieces (lentTable (c .before .before .before .before .before .before .before .before .before .before .before)) (c .before .before .before .before .before .before .before .before .before .before .before .args .token)))
+loop-holds c =
+    let start = c .before .before .before .before .before .before .before .before .before .before .before in
+    (search needs, search needs, none (sincePieces (lentTable start) (start .args .token)))
 
 loop-again : tie.Need-loop-again Inv-loop μ-loop
-loop-again c = (
-  search needs,
-  search needs,
-  one-more (c .before .before .before .before .before .before .loop .i) (sincePieces (lentTable (c .before .before .before .before .before .before .before .before .before .before .before .before .before .before .before .before .before .before)) (c .before .before .before .before .before .before .before .before .before .before .before .before .before .before .before .before .before .before .args .token)) (c .before .before .before .before .before .before .loop .inv .2)
-      (saying (ap {B = Pieces} (λ (e : Numbers). numbersPieces e) (c .before .before .before .before .lent-action .ensures)) (c .before .before .entry .ensures)),
-)
+loop-again c =
+    let start = c .before .before .before .before .before .before .before .before .before .before .before .before .before .before .before .before .before .before in
+    let loop = c .before .before .before .before .before .before .loop in (
+      search needs,
+      search needs,
+      one-more (loop .i) (sincePieces (lentTable start) (start .args .token)) (loop .inv .2)
+          (saying (ap {B = Pieces} (λ (e : Numbers). numbersPieces e) (c .before .before .before .before .lent-action .ensures)) (c .before .before .entry .ensures)),
+    )
 
 returns : tie.Need-returns Inv-loop μ-loop
-returns c = all (c .before .loop .i) (c .before .before .before .before .before .before .before .before .before .before .before .before .before .args .n) (sincePieces (lentTable (c .before .before .before .before .before .before .before .before .before .before .before .before .before)) (c .before .before .before .before .before .before .before .before .before .before .before .before .before .args .token)) (omega arith) (c .before .loop .inv .2)
+returns c =
+    let start = c .before .before .before .before .before .before .before .before .before .before .before .before .before in
+    let loop = c .before .loop in
+    all (loop .i) (start .args .n) (sincePieces (lentTable start) (start .args .token)) (omega arith) (loop .inv .2)
 
 pub entries-since-spec : {M : Type 1} → statement M
 entries-since-spec =
