@@ -18,6 +18,8 @@ use Rattle.layout.specs.Coding.{Listed, unlisted, calls, listed, single, isList
 use Rattle.layout.specs.Answers.{answerNumbers, answersNumbers}
 use Rattle.layout.proofs.LayoutLaws.{numbers-state, serials-state}
 use Rattle.layout.proofs.CodingLaws.{Next, next-call}
+use Rattle.host.specs.declared.one.Way.{Way}
+use Rattle.host.specs.Ways.{wayCall}
 use Rattle.host.specs.Run.{run}
 use Rattle.host.specs.Host.{CARRIED-OUT, NO-STATE, NO-CALL, NO-ROOM, Host, host, hosted, tableOf, served, heard, serve}
 
@@ -27,6 +29,11 @@ pub one-done : (rs rs′ : Rows) (l l′ : Log) (s s′ s₀ s₁ : State) (a : 
     → outcome a (table rs′ l′ s′) ≡ step (table rs l s) c → s₁ ≡ s′ → outcome a (table rs′ l′ s₁) ≡ step (table rs l s₀) c
 one-done rs rs′ l l′ s s′ s₀ s₁ a c p q r =
     ap (λ (x : State). outcome a (table rs′ l′ x)) r ∙ q ∙ ap (λ (x : State). step (table rs l x) c) p
+
+-- ---- any of the ways
+
+pub as-way : (t : Table) (c : Call) (d d′ : Way) (o : Outcome) → o ≡ step t (wayCall d′) → d ≡ d′ → wayCall d ≡ c → o ≡ step t c
+as-way t c d d′ o e q h = e ∙ ap (λ (x : Way). step t (wayCall x)) (sym q) ∙ ap (step t) h
 
 -- ---- a list of calls
 

@@ -1,3 +1,4 @@
 -- What the exported functions leave.
 pub mod Run
 pub mod Host
+pub mod Ways
