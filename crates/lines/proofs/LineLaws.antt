@@ -1,6 +1,6 @@
 -- Laws of lines and their bytes. Assumes nothing.
 use mathlib.Core.Bool.{Bool, true, false}
-use mathlib.Core.List.{List, [], _∷_}
+use mathlib.Core.List.{List, _∷_}
 use mathlib.Core.Path.{_≡_, ap, _∙_}
 use Prim.Native.Nat.{ℕ, suc, _+_, _≤_, _<_}
 use native.Mathlib.Decide.{decLe}
@@ -12,7 +12,7 @@ use lib.ListN.{length, getD, set, take, drop, length-take, drop-of-length-le, Li
 use lib.Seq.{length-take-le, drop-cons, getD-take}
 use Rattle.text.specs.Command.{commandOf}
 use Rattle.text.specs.declared.command.Command.the-variants.{Blank, Error}
-use Rattle.lines.specs.Lines.{Line, line, Reached, reached, keeping, gathering, cutOff, lineCommand}
+use Rattle.lines.specs.Lines.{line, reached, keeping, gathering, cutOff, lineCommand}
 
 -- ---- gathering
 

@@ -1,7 +1,7 @@
 -- Laws of pieces that are printed. Assumes nothing.
 use mathlib.Core.List.{List, [], _∷_, _++_}
 use mathlib.Core.Path.{_≡_, refl, ap, sym, _∙_}
-use Prim.Native.Nat.{ℕ, suc, _+_, _≤_}
+use Prim.Native.Nat.{ℕ, _+_, _≤_}
 use native.Mathlib.Numerals.{add-one}
 use lib.ListN.{length}
 use lib.Seq.{paste}
@@ -9,7 +9,7 @@ use Rattle.rules.specs.Lent.{Table}
 use Rattle.text.specs.Printed.{Printed}
 use Rattle.text.specs.declared.command.Lengths.{Lengths}
 use Rattle.memory.specs.declared.reply.Reply.{Reply}
-use Rattle.lines.specs.Pieces.{Page, page, placed, printing, Said}
+use Rattle.lines.specs.Pieces.{Page, placed, printing, Said}
 use Rattle.lines.specs.Replies.{Pieces, each, replyPieces}
 
 -- ---- pieces one after the other

@@ -1,9 +1,8 @@
 -- `buffer::flush` is safe and ends. Assumes nothing.
-use mathlib.Core.Path.{_≡_, sym}
-use Prim.Native.Nat.{ℕ, _+_, _-_, _≤_, _<_}
+use mathlib.Core.Path.{sym}
+use Prim.Native.Nat.{_-_}
 use native.Mathlib.Omega.{arith}
 use borrow.Author.Needs.{needs}
-use lib.ListN.{length, length-set}
 use lib.Seq.{length-take-le}
 use Rattle.lines.proofs.buffer.flush.Statement.{statement}
 use Rattle.lines.proofs.buffer.flush.Tie as tie

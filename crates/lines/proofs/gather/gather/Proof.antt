@@ -1,5 +1,5 @@
 -- `gather::gather` meets its contract. The invariant: what is gathered from here on is what was to be gathered. Assumes nothing.
-use Prim.Native.Nat.{ℕ, _+_, _-_}
+use Prim.Native.Nat.{_+_, _-_}
 use borrow.Author.Needs.{needs}
 use lib.ListN.{length, take, drop}
 use mathlib.Core.Path.{_≡_, refl, ap, _∙_}

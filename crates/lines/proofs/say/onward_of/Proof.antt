@@ -1,6 +1,5 @@
 -- `say::onward_of` meets its contract. Assumes nothing.
 use borrow.Author.Needs.{needs}
-use mathlib.Core.Path.{sym}
 use Rattle.lines.proofs.ReplyLaws.{entries-follow, no-entries}
 use Rattle.lines.proofs.say.onward_of.Statement.{statement}
 use Rattle.lines.proofs.say.onward_of.Tie as tie

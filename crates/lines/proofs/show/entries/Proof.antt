@@ -4,7 +4,7 @@ use borrow.Author.Needs.{needs}
 use lib.ListN.{length}
 use mathlib.Core.Path.{_≡_}
 use native.Mathlib.Omega.{arith}
-use Rattle.lines.proofs.PieceLaws.{none, one-more, all, then, saying}
+use Rattle.lines.proofs.PieceLaws.{none, one-more, all, then}
 use Rattle.lines.specs.Pieces.{Said}
 use Rattle.lines.specs.Replies.{Pieces, each, logOf, entryPieces}
 use Rattle.rules.specs.Contract.{logNow}

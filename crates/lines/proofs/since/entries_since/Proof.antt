@@ -1,5 +1,5 @@
 -- `since::entries_since` meets its contract. The invariant: so far the first `i` entries are printed. Assumes nothing.
-use Prim.Native.Nat.{ℕ, _-_, _≤_}
+use Prim.Native.Nat.{_-_, _≤_}
 use borrow.Author.Needs.{needs}
 use lib.ListN.{length}
 use mathlib.Core.Path.{_≡_}
