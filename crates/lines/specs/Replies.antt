@@ -33,7 +33,7 @@ use Rattle.text.specs.Printed.{answerText, rowText, kindText, markText, stateTe
 use Rattle.text.specs.declared.command.Lengths.{Lengths}
 use Rattle.text.specs.declared.print.Cell.{Cell}
 use Rattle.text.specs.declared.print.Cell.the-variants.{Missing, Number}
-use Rattle.memory.specs.Cut.{within, front, lentOf}
+use Rattle.memory.specs.Cut.{within, front, lentOf, mostRows, mostEntries}
 use Rattle.memory.specs.declared.reply.Reply.{Reply}
 use Rattle.memory.specs.declared.reply.Reply.the-variants as reply
 
@@ -133,17 +133,6 @@ entryPieces l i = kindText (cellAt (l .kinds) i) (cellAt (l .keys) i) ∷ rowPie
 -- "| SERIAL LOGLEN KEYS"
 abbrev pub markPieces : State → ℕ → Pieces
 markPieces s i = markText (markAt s i) ∷ []
-
--- "Where lent parts have unequal lengths `dump` goes to the longest"
-abbrev pub larger : ℕ → ℕ → ℕ
-larger a b = cond (ltb a b) b a
-
-abbrev pub mostRows : Lengths → ℕ
-mostRows n = larger (larger (n .parents) (n .ranks)) (larger (n .owners) (n .amounts))
-
-abbrev pub mostEntries : Lengths → ℕ
-mostEntries n =
-    larger (larger (n .logkinds) (n .logkeys)) (larger (larger (n .logparents) (n .logranks)) (larger (n .logowners) (n .logamounts)))
 
 -- "row PARENT RANK OWNER AMOUNT, or none past what is lent"
 abbrev pub lookPieces : Lengths → Rows → ℕ → Pieces

@@ -1,7 +1,6 @@
 // Lines read, answered and printed. What a command does to the lent memory is `memory`'s; reading and writing files is the
 // program's, but for a full buffer, which is written out before more is printed.
 pub mod buffer;
-pub mod extent;
 pub mod gather;
 pub mod line;
 pub mod read;

@@ -24,6 +24,17 @@ front n l = take (within n (length l)) l
 abbrev pub again : ℕ → List ℕ → List ℕ → List ℕ
 again n l after = after ++ drop (within n (length l)) l
 
+-- "Where lent parts have unequal lengths `dump` goes to the longest"
+abbrev pub larger : ℕ → ℕ → ℕ
+larger a b = cond (ltb a b) b a
+
+abbrev pub mostRows : Lengths → ℕ
+mostRows n = larger (larger (n .parents) (n .ranks)) (larger (n .owners) (n .amounts))
+
+abbrev pub mostEntries : Lengths → ℕ
+mostEntries n =
+    larger (larger (n .logkinds) (n .logkeys)) (larger (larger (n .logparents) (n .logranks)) (larger (n .logowners) (n .logamounts)))
+
 -- The ten parts of a table.
 abbrev pub lentOf : Lengths → Table → Table
 lentOf n t =

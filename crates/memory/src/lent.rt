@@ -1,6 +1,6 @@
 ghost use mathlib.Core.Path.{_≡_};
 ghost use Prim.Native.Nat.{_≤_};
-ghost use Rattle.memory.specs.Cut.{within};
+ghost use Rattle.memory.specs.Cut.{within, larger as most, mostRows, mostEntries};
 use text::command::Lengths;
 
 // The most rows and entries that can be lent.
@@ -36,29 +36,28 @@ pub fn even(rows: u32, log: u32) -> Lengths {
     }
 }
 
-fn larger(a: u32, b: u32) -> u32 {
+fn larger(a: u32, b: u32) -> u32
+    ensures { λ r. ⌜ r ≡ most a b ⌝ }
+{
     if a < b {
         return b;
     }
     a
 }
 
-fn smaller(a: u32, b: u32) -> u32 {
-    if a < b {
-        return a;
-    }
-    b
-}
-
 // The longest of the rows' parts.
-pub fn longest_rows(lengths: Lengths) -> u32 {
+pub fn longest_rows(lengths: Lengths) -> u32
+    ensures { λ r. ⌜ r ≡ mostRows lengths ⌝ }
+{
     let first = larger(lengths.parents, lengths.ranks);
     let second = larger(lengths.owners, lengths.amounts);
     larger(first, second)
 }
 
 // The longest of the log's parts.
-pub fn longest_log(lengths: Lengths) -> u32 {
+pub fn longest_log(lengths: Lengths) -> u32
+    ensures { λ r. ⌜ r ≡ mostEntries lengths ⌝ }
+{
     let first = larger(lengths.logkinds, lengths.logkeys);
     let second = larger(lengths.logparents, lengths.logranks);
     let third = larger(lengths.logowners, lengths.logamounts);
@@ -66,8 +65,13 @@ pub fn longest_log(lengths: Lengths) -> u32 {
 }
 
 // How many rows or entries `live` shows: those in use that are lent at all.
-pub fn in_use(number: u32, longest: u32) -> u32 {
-    smaller(number, longest)
+pub fn in_use(number: u32, longest: u32) -> u32
+    ensures { λ r. ⌜ r ≡ within number longest ⌝ }
+{
+    if longest < number {
+        return longest;
+    }
+    number
 }
 
 // Whether there is room for such lengths.

@@ -1,8 +1,8 @@
--- `extent::in_use` meets its contract. Assumes nothing.
+-- `lent::in_use` meets its contract. Assumes nothing.
 use borrow.Author.Tests.{le-ltb, lt-ltb}
 use native.Mathlib.Omega.{arith}
-use Rattle.lines.proofs.extent.in_use.Statement.{statement}
-use Rattle.lines.proofs.extent.in_use.Tie as tie
+use Rattle.memory.proofs.lent.in_use.Statement.{statement}
+use Rattle.memory.proofs.lent.in_use.Tie as tie
 
 returns : tie.Need-returns
 returns c =

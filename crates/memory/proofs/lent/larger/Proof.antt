@@ -1,8 +1,8 @@
--- `extent::larger` meets its contract. Assumes nothing.
+-- `lent::larger` meets its contract. Assumes nothing.
 use borrow.Author.Tests.{le-ltb, lt-ltb}
 use native.Mathlib.Omega.{arith}
-use Rattle.lines.proofs.extent.larger.Statement.{statement}
-use Rattle.lines.proofs.extent.larger.Tie as tie
+use Rattle.memory.proofs.lent.larger.Statement.{statement}
+use Rattle.memory.proofs.lent.larger.Tie as tie
 
 returns : tie.Need-returns
 returns c =

@@ -1,7 +1,7 @@
--- `extent::longest_rows` meets its contract. Assumes nothing.
+-- `lent::longest_rows` meets its contract. Assumes nothing.
 use borrow.Author.Needs.{needs}
-use Rattle.lines.proofs.extent.longest_rows.Statement.{statement}
-use Rattle.lines.proofs.extent.longest_rows.Tie as tie
+use Rattle.memory.proofs.lent.longest_rows.Statement.{statement}
+use Rattle.memory.proofs.lent.longest_rows.Tie as tie
 
 returns : tie.Need-returns
 returns c = rw (c .before .before .larger .ensures, c .before .larger2 .ensures) at (c .larger3 .ensures)
