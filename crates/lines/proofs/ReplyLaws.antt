@@ -35,7 +35,7 @@ use Rattle.text.specs.Printed.{rowText, kindText}
 use Rattle.text.specs.declared.command.Lengths.{Lengths}
 use Rattle.text.specs.declared.print.Cell.{Cell}
 use Rattle.text.specs.declared.print.Cell.the-variants.{Missing, Number}
-use Rattle.memory.specs.Cut.{within, front}
+use Rattle.memory.specs.Cut.{within, front, mostRows, mostEntries}
 use Rattle.lines.specs.Replies.{
   Pieces,
   FEED,
@@ -43,8 +43,6 @@ use Rattle.lines.specs.Replies.{
   sincePieces,
   onward,
   cellAt,
-  mostRows,
-  mostEntries,
   rowPiece,
   lookPieces,
   memoryPieces,
