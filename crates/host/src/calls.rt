@@ -6,7 +6,6 @@ ghost use Rattle.layout.specs.State.{NUMBERS, SERIALS};
 ghost use Rattle.layout.specs.Coding.{listed, single, isListed, callsIn};
 ghost use Rattle.host.specs.Host.{hostLent, hosted, serve, served};
 use layout::answers::ANSWER;
-use layout::coding::Asked;
 use layout::state::NUMBERS;
 use layout::state::SERIALS;
 

@@ -6,8 +6,6 @@ use lib.ListN.{length, getD}
 use lib.Dec.{eqb, leb, ltb}
 use Rattle.rules.specs.declared.call.Call.{Call}
 use Rattle.rules.specs.declared.call.Call.the-variants.{New, Len, Find, Unioned, Join, Post, Probe, ProbeKey, TryProbe, Snapshot, Rollback, Commit, Keys, Actions, Changes}
-use Rattle.layout.specs.declared.coding.Asked.{Asked}
-use Rattle.layout.specs.declared.coding.Asked.the-variants.{Nothing, Call as asked}
 
 -- How large a number may be: it is not used; it is a key or an owner; it is an amount or a token.
 abbrev pub UNUSED : ℕ
@@ -55,8 +53,13 @@ formOf code = getD forms code (form UNUSED UNUSED UNUSED (λ a b c. Len))
 abbrev pub fits : Form → ℕ → ℕ → ℕ → Bool
 fits f a b c = leb a (f .a) && leb b (f .b) && leb c (f .c)
 
+-- What four numbers ask for: a call, or nothing that there is.
+pub data Asked : Type 0 where
+  nothing : Asked
+  asked : Call → Asked
+
 unfoldable pub askedOf : ℕ → ℕ → ℕ → ℕ → Asked
-askedOf code a b c = cond (ltb code (length forms) && fits (formOf code) a b c) (asked (formOf code .call a b c)) Nothing
+askedOf code a b c = cond (ltb code (length forms) && fits (formOf code) a b c) (asked (formOf code .call a b c)) nothing
 
 -- ---- a list of calls
 
@@ -66,7 +69,7 @@ pub data Listed : Type 0 where
   calls : List Call → Listed
 
 abbrev pub then : Asked → Listed → Listed
-then Nothing l = unlisted
+then nothing l = unlisted
 then (asked c) unlisted = unlisted
 then (asked c) (calls cs) = calls (c ∷ cs)
 
@@ -89,9 +92,13 @@ abbrev pub callsIn : Listed → List Call
 callsIn unlisted = []
 callsIn (calls cs) = cs
 
+abbrev pub isAsked : Asked → Bool
+isAsked nothing = false
+isAsked (asked c) = true
+
 -- The call at a place. Where there is none it reads as one that changes nothing.
 abbrev pub called : Asked → Call
-called Nothing = Len
+called nothing = Len
 called (asked c) = c
 
 abbrev pub askedAt : List ℕ → ℕ → Asked

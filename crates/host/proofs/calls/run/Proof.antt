@@ -28,7 +28,8 @@ call-at-requires : tie.Need-call-at-requires Inv-loop μ-loop
 call-at-requires c κs =
     let g = c .before .before .before .before .before .before .before .before .before .before .before .before .before .before .before .before .args in
     let l = c .before .loop in
-    next-of (hostFrom (g .numbers .now) (g .serials .now) (g .parents .now) (g .ranks .now) (g .owners .now) (g .amounts .now) (g .logkinds .now) (g .logkeys .now) (g .logparents .now) (g .logranks .now) (g .logowners .now) (g .logamounts .now) (g .answers .now)) (hostFrom (l .numbers) (l .serials) (l .parents) (l .ranks) (l .owners) (l .amounts) (l .logkinds) (l .logkeys) (l .logparents) (l .logranks) (l .logowners) (l .logamounts) (l .answers)) (g .calls .now) (l .at) (l .to) (l .inv) (c .loop-test .taken) .room
+    let n = next-of (hostFrom (g .numbers .now) (g .serials .now) (g .parents .now) (g .ranks .now) (g .owners .now) (g .amounts .now) (g .logkinds .now) (g .logkeys .now) (g .logparents .now) (g .logranks .now) (g .logowners .now) (g .logamounts .now) (g .answers .now)) (hostFrom (l .numbers) (l .serials) (l .parents) (l .ranks) (l .owners) (l .amounts) (l .logkinds) (l .logkeys) (l .logparents) (l .logranks) (l .logowners) (l .logamounts) (l .answers)) (g .calls .now) (l .at) (l .to) (l .inv) (c .loop-test .taken) in
+    (n .room, n .asked-there)
 
 carry-out-requires : tie.Need-carry-out-requires Inv-loop μ-loop
 carry-out-requires c κs = let l = c .before .before .before .before .before .before .before .before .before .before .before .before .before .before .loop in (l .inv .numbers, l .inv .serials)

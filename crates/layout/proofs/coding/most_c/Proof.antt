@@ -1,18 +1,16 @@
--- `coding::most_c` meets its contract. Assumes nothing.
-use mathlib.Core.Path.{sym, ap}
-use Prim.Native.Nat.{ℕ}
-use Rattle.layout.specs.Coding.{formOf}
-use Rattle.layout.proofs.CodingLaws.{c-none}
+-- `coding::most_c` meets its contract: a limit of the table's. Assumes nothing.
+use mathlib.Core.Path.{_≡_, _∙_}
+use native.Mathlib.Omega.{arith}
+use borrow.Author.Tests.{lt-ltb, le-ltb, eq-eqb, ne-eqb}
+use Rattle.layout.proofs.CodingLaws.{mostC, most-c}
 use Rattle.layout.proofs.coding.most_c.Statement.{statement}
 use Rattle.layout.proofs.coding.most_c.Tie as tie
 
 returns : tie.Need-returns
-returns c = ap (λ (n : ℕ). formOf n .c) (sym (c .if1 .taken))
+returns c = let x = c .before .args .code in let e : 18446744073709551615 ≡ mostC x = rw (eq-eqb x 5 (c .if1 .taken)) in e ∙ most-c x (c .before .pre)
 
 returns-2 : tie.Need-returns-2
-returns-2 c = c-none (c .before .args .code) (c .before .pre) (c .if1 .left)
+returns-2 c = let x = c .before .args .code in let e : 0 ≡ mostC x = rw (ne-eqb x 5 (c .if1 .left)) in e ∙ most-c x (c .before .pre)
 
 pub most-c-spec : {M : Type 1} → statement M
-most-c-spec =
-    tie.close
-    (tie.spec returns returns-2)
+most-c-spec = tie.close (tie.spec returns returns-2)
