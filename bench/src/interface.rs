@@ -6,9 +6,8 @@ use crate::ffi::Exported;
 #[inline(never)]
 #[rustfmt::skip] // a slice a line
 unsafe extern "C" fn nothing(
-    _: *mut u32, _: usize, _: *mut u64, _: usize, _: *mut u32, _: usize, _: *mut u32, _: usize, _: *mut u32, _: usize,
-    _: *mut u64, _: usize, _: *mut u32, _: usize, _: *mut u32, _: usize, _: *mut u32, _: usize, _: *mut u32, _: usize,
-    _: *mut u32, _: usize, _: *mut u64, _: usize,
+    _: *mut u32, _: usize, _: *mut u64, _: usize, _: *mut u32, _: usize, _: *mut u32, _: usize, _: *mut u64, _: usize,
+    _: *mut u32, _: usize,
     call: *const u64, _: usize,
     answer: *mut u64, _: usize,
 ) -> u32 {

@@ -2,7 +2,7 @@
 
 use std::hint::black_box;
 
-use crate::ffi::{Memory, ANSWER, CALL};
+use crate::ffi::{Memory, ANSWER, CALL, ENTRY};
 use crate::interface::NOTHING;
 use crate::work::Numbers;
 
@@ -25,20 +25,9 @@ pub fn state() -> usize {
 }
 
 fn lent(memory: &Memory) -> usize {
-    let numbers = [&memory.parents, &memory.ranks, &memory.owners]
-        .into_iter()
-        .chain([
-            &memory.logkinds,
-            &memory.logkeys,
-            &memory.logparents,
-            &memory.logranks,
-            &memory.logowners,
-        ])
-        .map(|part| size_of_val(&part[..]));
-    let amounts = [&memory.amounts, &memory.logamounts]
-        .into_iter()
-        .map(|part| size_of_val(&part[..]));
-    numbers.chain(amounts).sum::<usize>() + size_of_val(&memory.numbers) + size_of_val(&memory.serials)
+    let short = [&memory.parents, &memory.crowns, &memory.log].map(|part| size_of_val(&part[..]));
+    let long = size_of_val(&memory.amounts[..]);
+    short.iter().sum::<usize>() + long + size_of_val(&memory.numbers) + size_of_val(&memory.serials)
 }
 
 impl Table {
@@ -55,24 +44,10 @@ impl Table {
         let (memory, to) = (&mut self.0, &to.0);
         memory.numbers = to.numbers;
         memory.serials = to.serials;
-        for (part, to) in [
-            (&mut memory.parents, &to.parents),
-            (&mut memory.ranks, &to.ranks),
-            (&mut memory.owners, &to.owners),
-        ] {
-            part.copy_from_slice(to);
-        }
+        memory.parents.copy_from_slice(&to.parents);
+        memory.crowns.copy_from_slice(&to.crowns);
         memory.amounts.copy_from_slice(&to.amounts);
-        for part in [
-            &mut memory.logkinds,
-            &mut memory.logkeys,
-            &mut memory.logparents,
-            &mut memory.logranks,
-            &mut memory.logowners,
-        ] {
-            part[..entries].fill(0);
-        }
-        memory.logamounts[..entries].fill(0);
+        memory.log[..ENTRY * entries].fill(0);
     }
 
     pub fn used(&self) -> usize {

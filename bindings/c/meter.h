@@ -1,7 +1,7 @@
 /* The meter's table for C: link target/staticlib/libhost.a, or target/bindings/libmeter.so.
  *
- * The archive keeps no memory and allocates none. A table is twelve arrays that the caller owns and lends for the time
- * of a call: two for the state, four for the rows, six for the log. docs/LIBRARY.md says more, with examples.
+ * The archive keeps no memory and allocates none. A table is six arrays that the caller owns and lends for the time of
+ * a call: two for the state, three for the rows, one for the log. docs/LIBRARY.md says more, with examples.
  *
  * Every pointer must be aligned for its type and must not be null, also where a length is 0; the arrays must not
  * overlap; and no other thread may read or write them during a call. This is what the caller owes. Whatever the arrays
@@ -33,10 +33,27 @@ enum {
   METER_SERIALS_MARKS = 1 /* mark i has its serial here + i */
 };
 
+/* Layout of the rows and of the log. Row i has its parent and its amount at i of these arrays, and two numbers of
+ * crowns from METER_CROWN_NUMBERS * i on; only a root's crown and amount mean anything. Entry i is the seven numbers of
+ * log from METER_ENTRY_NUMBERS * i on. */
+enum {
+  METER_CROWN_NUMBERS = 2,
+  METER_CROWN_RANK = 0,
+  METER_CROWN_OWNER = 1, /* 0 is none */
+  METER_ENTRY_NUMBERS = 7,
+  METER_ENTRY_KIND = 0,
+  METER_ENTRY_KEY = 1,
+  METER_ENTRY_PARENT = 2, /* from here on the row as it was before */
+  METER_ENTRY_RANK = 3,
+  METER_ENTRY_OWNER = 4,
+  METER_ENTRY_AMOUNT_LOW = 5, /* the amount's lower 32 bits, and its upper ones */
+  METER_ENTRY_AMOUNT_HIGH = 6
+};
+
 /* Kinds of log entries. */
 enum {
-  METER_ENTRY_NEW = 1,    /* a new key; the entry's row is 0 */
-  METER_ENTRY_CHANGED = 2 /* a changed row, as it was before */
+  METER_KIND_NEW = 1,    /* a new key; the entry's row is 0 */
+  METER_KIND_CHANGED = 2 /* a changed row */
 };
 
 /* A call is four numbers: a code, then a, b and c as named here. Numbers that are not named are 0.
@@ -101,38 +118,45 @@ enum {
 
 /* Carries out one call: call_len is 4, and the answer's first nine numbers are written. Lengths are in elements. */
 uint32_t meter_call(uint32_t *numbers, size_t numbers_len, uint64_t *serials, size_t serials_len, uint32_t *parents,
-                    size_t parents_len, uint32_t *ranks, size_t ranks_len, uint32_t *owners, size_t owners_len,
-                    uint64_t *amounts, size_t amounts_len, uint32_t *logkinds, size_t logkinds_len, uint32_t *logkeys,
-                    size_t logkeys_len, uint32_t *logparents, size_t logparents_len, uint32_t *logranks,
-                    size_t logranks_len, uint32_t *logowners, size_t logowners_len, uint64_t *logamounts,
-                    size_t logamounts_len, const uint64_t *call, size_t call_len, uint64_t *answer, size_t answer_len);
+                    size_t parents_len, uint32_t *crowns, size_t crowns_len, uint64_t *amounts, size_t amounts_len,
+                    uint32_t *log, size_t log_len, const uint64_t *call, size_t call_len, uint64_t *answer,
+                    size_t answer_len);
 
 /* Carries out a list: calls_len is 4 for each call, and nine numbers are written for each, one after the other. The
  * whole list is tested before its first call is carried out. A refused call doesn't stop the list. */
 uint32_t meter_calls(uint32_t *numbers, size_t numbers_len, uint64_t *serials, size_t serials_len, uint32_t *parents,
-                     size_t parents_len, uint32_t *ranks, size_t ranks_len, uint32_t *owners, size_t owners_len,
-                     uint64_t *amounts, size_t amounts_len, uint32_t *logkinds, size_t logkinds_len, uint32_t *logkeys,
-                     size_t logkeys_len, uint32_t *logparents, size_t logparents_len, uint32_t *logranks,
-                     size_t logranks_len, uint32_t *logowners, size_t logowners_len, uint64_t *logamounts,
-                     size_t logamounts_len, const uint64_t *calls, size_t calls_len, uint64_t *answers,
+                     size_t parents_len, uint32_t *crowns, size_t crowns_len, uint64_t *amounts, size_t amounts_len,
+                     uint32_t *log, size_t log_len, const uint64_t *calls, size_t calls_len, uint64_t *answers,
                      size_t answers_len);
 
-/* The twelve arrays of a table in one place: `rows` elements in each row part, `log` in each log part. */
+/* The six arrays of a table in one place. */
 struct meter_table {
   uint32_t *numbers; /* METER_NUMBERS */
   uint64_t *serials; /* METER_SERIALS */
   size_t rows;
-  uint32_t *parents, *ranks, *owners;
-  uint64_t *amounts;
-  size_t log;
-  uint32_t *logkinds, *logkeys, *logparents, *logranks, *logowners;
-  uint64_t *logamounts;
+  uint32_t *parents; /* rows */
+  uint32_t *crowns;  /* METER_CROWN_NUMBERS * rows */
+  uint64_t *amounts; /* rows */
+  size_t entries;
+  uint32_t *log; /* METER_ENTRY_NUMBERS * entries */
 };
 
-#define METER_LEND(t)                                                                                       \
-  (t)->numbers, METER_NUMBERS, (t)->serials, METER_SERIALS, (t)->parents, (t)->rows, (t)->ranks, (t)->rows, \
-      (t)->owners, (t)->rows, (t)->amounts, (t)->rows, (t)->logkinds, (t)->log, (t)->logkeys, (t)->log,     \
-      (t)->logparents, (t)->log, (t)->logranks, (t)->log, (t)->logowners, (t)->log, (t)->logamounts, (t)->log
+#define METER_LEND(t)                                                                             \
+  (t)->numbers, METER_NUMBERS, (t)->serials, METER_SERIALS, (t)->parents, (t)->rows, (t)->crowns, \
+      METER_CROWN_NUMBERS *(t)->rows, (t)->amounts, (t)->rows, (t)->log, METER_ENTRY_NUMBERS *(t)->entries
+
+/* The numbers of row i's crown, and of entry i. */
+static inline const uint32_t *meter_crown(const struct meter_table *t, size_t i) {
+  return t->crowns + METER_CROWN_NUMBERS * i;
+}
+
+static inline const uint32_t *meter_entry(const struct meter_table *t, size_t i) {
+  return t->log + METER_ENTRY_NUMBERS * i;
+}
+
+static inline uint64_t meter_entry_amount(const uint32_t *entry) {
+  return (uint64_t)entry[METER_ENTRY_AMOUNT_HIGH] << 32 | entry[METER_ENTRY_AMOUNT_LOW];
+}
 
 /* One call on a table: four numbers in, nine out. */
 static inline uint32_t meter_ask(const struct meter_table *t, const uint64_t *call, uint64_t *answer) {

@@ -12,13 +12,11 @@ enum { ROWS_ROOM = METER_ROWS_LIMIT + 1, LOG_ROOM = METER_LOG_LIMIT + 1 };
 
 static uint32_t numbers[METER_NUMBERS];
 static uint64_t serials[METER_SERIALS];
-static uint32_t parents[ROWS_ROOM], ranks[ROWS_ROOM], owners[ROWS_ROOM];
+static uint32_t parents[ROWS_ROOM], crowns[METER_CROWN_NUMBERS * ROWS_ROOM];
 static uint64_t amounts[ROWS_ROOM];
-static uint32_t logkinds[LOG_ROOM], logkeys[LOG_ROOM], logparents[LOG_ROOM], logranks[LOG_ROOM], logowners[LOG_ROOM];
-static uint64_t logamounts[LOG_ROOM];
+static uint32_t logged[METER_ENTRY_NUMBERS * LOG_ROOM];
 
-static struct meter_table table = {numbers, serials,  0,       parents,    ranks,    owners,    amounts,
-                                   0,       logkinds, logkeys, logparents, logranks, logowners, logamounts};
+static struct meter_table table = {numbers, serials, 0, parents, crowns, amounts, 0, logged};
 
 static int failed_checks;
 
@@ -35,21 +33,20 @@ struct part {
   void *at;
   size_t bytes;
 };
-enum { PARTS = 12 };
+enum { PARTS = 6 };
 
 static void list_parts(struct part *parts) {
-  const struct part all[PARTS] = {{numbers, sizeof numbers}, {serials, sizeof serials},  {parents, 4 * table.rows},
-                                  {ranks, 4 * table.rows},   {owners, 4 * table.rows},   {amounts, 8 * table.rows},
-                                  {logkinds, 4 * table.log}, {logkeys, 4 * table.log},   {logparents, 4 * table.log},
-                                  {logranks, 4 * table.log}, {logowners, 4 * table.log}, {logamounts, 8 * table.log}};
+  const struct part all[PARTS] = {{numbers, sizeof numbers}, {serials, sizeof serials},
+                                  {parents, 4 * table.rows}, {crowns, 4 * METER_CROWN_NUMBERS * table.rows},
+                                  {amounts, 8 * table.rows}, {logged, 4 * METER_ENTRY_NUMBERS * table.entries}};
   memcpy(parts, all, sizeof all);
 }
 
 /* A fresh table. Rows and log are filled with something: a fresh table may hold anything there. */
-static void fresh(size_t rows, size_t log) {
+static void fresh(size_t rows, size_t entries) {
   struct part parts[PARTS];
   table.rows = rows;
-  table.log = log;
+  table.entries = entries;
   list_parts(parts);
   for (int i = 0; i < PARTS; i++) memset(parts[i].at, i < 2 ? 0 : 0xA5, parts[i].bytes);
 }
@@ -115,12 +112,21 @@ static int answered(uint64_t no, uint64_t key, uint64_t token, uint64_t owner, u
   } while (0)
 
 static int row_is(uint32_t key, uint32_t parent, uint32_t rank, uint32_t owner, uint64_t amount) {
-  return parents[key] == parent && ranks[key] == rank && owners[key] == owner && amounts[key] == amount;
+  const uint32_t *crown = meter_crown(&table, key);
+  return parents[key] == parent && crown[METER_CROWN_RANK] == rank && crown[METER_CROWN_OWNER] == owner &&
+         amounts[key] == amount;
+}
+
+static int entry_is(size_t at, uint32_t kind, uint32_t key, uint32_t parent, uint32_t rank, uint32_t owner,
+                    uint64_t amount) {
+  const uint32_t *entry = meter_entry(&table, at);
+  return entry[METER_ENTRY_KIND] == kind && entry[METER_ENTRY_KEY] == key && entry[METER_ENTRY_PARENT] == parent &&
+         entry[METER_ENTRY_RANK] == rank && entry[METER_ENTRY_OWNER] == owner && meter_entry_amount(entry) == amount;
 }
 
 /* Document 01's table T: amounts 1, 2, 4, 8, no owner, joined to one group. */
-static void make_t(size_t rows, size_t log) {
-  fresh(rows, log);
+static void make_t(size_t rows, size_t entries) {
+  fresh(rows, entries);
   for (uint32_t i = 0; i < 4; i++) new_key(0, 1u << i);
   join(0, 1);
   join(2, 3);
@@ -167,8 +173,7 @@ static void example_5_find_in_a_snapshot(void) {
   CHECK(answered(0, 0, 1, 0, 0, 0, 0, 0, 0));
   CHECK(find(0) == METER_DONE);
   CHECK(numbers[METER_NUMBERS_USED] == 1 && parents[0] == 3);
-  CHECK(logkinds[0] == METER_ENTRY_CHANGED && logkeys[0] == 0 && logparents[0] == 1 && logranks[0] == 0);
-  CHECK(logowners[0] == 0 && logamounts[0] == 1);
+  CHECK(entry_is(0, METER_KIND_CHANGED, 0, 1, 0, 0, 1));
   CHECK(rollback(1) == METER_DONE);
   CHECK(answered(0, 0, 0, 0, 0, 0, 0, 0, 0));
   CHECK(parents[0] == 1 && numbers[METER_NUMBERS_USED] == 0 && numbers[METER_NUMBERS_OPEN] == 0);
@@ -296,7 +301,7 @@ static void since_a_snapshot(void) {
   CHECK(answered(0, 0, 0, 0, 0, 0, 0, 5, 6));
   ask(METER_CODE_ACTIONS, 2, 0, 0);
   CHECK(answered(0, 0, 0, 0, 0, 0, 0, 1, 2));
-  CHECK(logkinds[1] == METER_ENTRY_NEW && logkeys[1] == 5 && logparents[1] == 0 && logamounts[1] == 0);
+  CHECK(entry_is(1, METER_KIND_NEW, 5, 0, 0, 0, 0));
   ask(METER_CODE_CHANGES, 2, 0, 0);
   CHECK(answered(0, 0, 0, 0, 0, 0, 1, 0, 0));
   REFUSED(METER_NOT_OPEN, ask(METER_CODE_KEYS, 3, 0, 0));
@@ -304,6 +309,16 @@ static void since_a_snapshot(void) {
   REFUSED(METER_NOT_OPEN, ask(METER_CODE_CHANGES, UINT64_MAX, 0, 0));
   CHECK(commit(2) == METER_DONE && commit(1) == METER_DONE);
   CHECK(numbers[METER_NUMBERS_USED] == 0 && numbers[METER_NUMBERS_COUNT] == 6); /* the last commit empties the log */
+}
+
+/* The log holds an amount as two words. */
+static void a_logged_amount_is_whole(void) {
+  fresh(1, 1);
+  new_key(0, UINT64_MAX - 1);
+  snapshot();
+  CHECK(post(0, 0, 1) == METER_DONE && amounts[0] == UINT64_MAX);
+  CHECK(entry_is(0, METER_KIND_CHANGED, 0, 0, 0, 0, UINT64_MAX - 1));
+  CHECK(rollback(1) == METER_DONE && amounts[0] == UINT64_MAX - 1);
 }
 
 static void spent_serials(void) {
@@ -323,7 +338,7 @@ static void damaged_rows_and_entries(void) {
   make_t(4, 4);
   snapshot();
   find(0);
-  logkinds[0] = 3; /* no known kind */
+  logged[METER_ENTRY_KIND] = 3; /* no known kind */
   REFUSED(METER_BROKEN_TABLE, rollback(1));
 }
 
@@ -345,25 +360,32 @@ static void bad_states(void) {
   CHECK(new_key(0, 1) == METER_DONE && snapshot() == METER_DONE);
 }
 
-/* The functions themselves, with one length of their own choosing: numbers, serials, parents, .., call, answer. */
+/* The functions themselves, with lengths of their own choosing: numbers, serials, parents, crowns, amounts, log, call,
+ * answer. */
+enum { SLICES = 8 };
+
 static uint32_t with_lengths(int list, const size_t *lengths, const uint64_t *call, uint64_t *to) {
   const size_t *n = lengths;
-  return (list ? meter_calls : meter_call)(numbers, n[0], serials, n[1], parents, n[2], ranks, n[3], owners, n[4],
-                                           amounts, n[5], logkinds, n[6], logkeys, n[7], logparents, n[8], logranks,
-                                           n[9], logowners, n[10], logamounts, n[11], call, n[12], to, n[13]);
+  return (list ? meter_calls : meter_call)(numbers, n[0], serials, n[1], parents, n[2], crowns, n[3], amounts, n[4],
+                                           logged, n[5], call, n[6], to, n[7]);
 }
 
+/* Rows that have no parent, crown or amount, and a log that ends inside an entry. */
 static void lent_parts_of_unequal_length(void) {
   const uint64_t call[METER_CALL_NUMBERS] = {METER_CODE_LEN, 0, 0, 0};
+  const size_t level[SLICES] = {METER_NUMBERS, METER_SERIALS, 4, 8, 4, 28, 4, 9};
+  const size_t uneven[][2] = {{2, 3}, {2, 5}, {3, 4}, {3, 7}, {3, 6}, {4, 3}, {4, 5}, {5, 22}, {5, 27}};
   make_t(4, 4);
-  for (int part = 2; part < 12; part++) {
-    size_t lengths[14] = {METER_NUMBERS, METER_SERIALS, 4, 4, 4, 4, 4, 4, 4, 4, 4, 4, 4, 9};
-    lengths[part] = 3;
+  for (size_t i = 0; i < sizeof uneven / sizeof uneven[0]; i++) {
+    size_t lengths[SLICES];
+    memcpy(lengths, level, sizeof level);
+    lengths[uneven[i][0]] = uneven[i][1];
     for (int list = 0; list <= 1; list++) {
       CHECK(with_lengths(list, lengths, call, answer) == METER_CARRIED_OUT);
       CHECK(answered(METER_BAD_STATE, 0, 0, 0, 0, 0, 0, 0, 0));
     }
   }
+  CHECK(with_lengths(0, level, call, answer) == METER_CARRIED_OUT && answered(METER_DONE, 0, 0, 0, 0, 0, 0, 0, 4));
 }
 
 /* Both functions return `code` for the lengths and the call, and leave memory and answer alone. */
@@ -380,8 +402,7 @@ static void not_carried_out(uint32_t code, const size_t *lengths, const uint64_t
   }
 }
 
-#define LENGTHS(numbers, serials, call, answer) \
-  ((const size_t[14]){numbers, serials, 4, 4, 4, 4, 4, 4, 4, 4, 4, 4, call, answer})
+#define LENGTHS(numbers, serials, call, answer) ((const size_t[SLICES]){numbers, serials, 4, 8, 4, 28, call, answer})
 #define CALL(code, a, b, c) ((const uint64_t[METER_CALL_NUMBERS]){code, a, b, c})
 
 static void no_state(void) {
@@ -599,6 +620,7 @@ static const struct {
              TEST(example_15_at_the_limits),
              TEST(len_and_probes),
              TEST(since_a_snapshot),
+             TEST(a_logged_amount_is_whole),
              TEST(spent_serials),
              TEST(damaged_rows_and_entries),
              TEST(bad_states),

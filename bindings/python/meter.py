@@ -26,10 +26,11 @@ SNAPSHOTS_LIMIT = 32
 
 _NUMBERS, _SERIALS, _CALL, _ANSWER = 67, 33, 4, 9
 _COUNT, _OPEN = 0, 2
-# The parts of a table after numbers and serials, in the order in which they are lent.
+# How many numbers of crowns a row has (rank, owner), and of the log an entry (kind, key, and the old row's parent, rank,
+# owner and amount, as a low and a high word).
+_CROWN, _ENTRY = 2, 7
+_SLICES = 8  # numbers, serials, parents, crowns, amounts, log, calls, answers
 _u32, _u64 = ctypes.c_uint32, ctypes.c_uint64
-_ROW_PARTS = {"parents": _u32, "ranks": _u32, "owners": _u32, "amounts": _u64}
-_LOG_PARTS = {"kinds": _u32, "keys": _u32} | _ROW_PARTS
 (_NEW, _LEN, _FIND, _UNIONED, _JOIN, _POST, _PROBE, _PROBE_KEY, _TRY_PROBE,
  _SNAPSHOT, _ROLLBACK, _COMMIT, _KEYS, _ACTIONS, _CHANGES) = range(15)  # fmt: skip
 
@@ -173,9 +174,8 @@ def _load():
     if not path.is_file():
         raise ImportError(f"no shared object at {path}: run bindings/build, or name it in METER_LIBRARY")
     library = ctypes.PyDLL(str(path))  # keeps the interpreter's lock: no two threads are in a table at once
-    slices = 2 + len(_ROW_PARTS) + len(_LOG_PARTS) + 2
     for function in (library.meter_call, library.meter_calls):
-        function.argtypes = [ctypes.c_void_p, ctypes.c_size_t] * slices
+        function.argtypes = [ctypes.c_void_p, ctypes.c_size_t] * _SLICES
         function.restype = ctypes.c_uint32
     return library
 
@@ -191,9 +191,11 @@ class Meter:
             raise BadState
         self._numbers = (_u32 * _NUMBERS)()
         self._serials = (_u64 * _SERIALS)()
-        self._rows = {part: (kind * rows)() for part, kind in _ROW_PARTS.items()}
-        self._log = {part: (kind * log)() for part, kind in _LOG_PARTS.items()}
-        parts = [self._numbers, self._serials, *self._rows.values(), *self._log.values()]
+        self._parents = (_u32 * rows)()
+        self._crowns = (_u32 * (_CROWN * rows))()
+        self._amounts = (_u64 * rows)()
+        self._log = (_u32 * (_ENTRY * log))()
+        parts = [self._numbers, self._serials, self._parents, self._crowns, self._amounts, self._log]
         self._lent = [word for part in parts for word in (ctypes.addressof(part), len(part))]
 
     def _carry_out(self, function, calls, answers):
@@ -238,7 +240,8 @@ class Meter:
         """A live key's row as it stands in memory."""
         if not 0 <= key < self._numbers[_COUNT]:
             raise NoKey
-        return Row(*(part[key] for part in self._rows.values()))
+        rank, owner = self._crowns[_CROWN * key : _CROWN * (key + 1)]
+        return Row(self._parents[key], rank, owner, self._amounts[key])
 
     def new_key(self, owner=0, amount=0):
         """A new key, a group of its own."""
@@ -298,8 +301,8 @@ class Meter:
         return [self._entry(at) for at in range(answer.start, answer.end)]
 
     def _entry(self, at):
-        kind, key, *row = (part[at] for part in self._log.values())
-        return NewElem(key) if kind == 1 else SetElem(key, Row(*row))
+        kind, key, parent, rank, owner, low, high = self._log[_ENTRY * at : _ENTRY * (at + 1)]
+        return NewElem(key) if kind == 1 else SetElem(key, Row(parent, rank, owner, high << 32 | low))
 
     def has_changes(self, token):
         """Whether anything was logged since an open snapshot."""

@@ -163,6 +163,15 @@ class Methods(unittest.TestCase):
         table.commit(outer)
         self.assertEqual((len(table), table.in_snapshot), (5, False))
 
+    def test_a_logged_amount_is_whole(self):
+        table = Meter(1, 1)
+        table.new_key(amount=MAX - 1)
+        token = table.snapshot()
+        table.unify_var_value(0, amount=1)
+        self.assertEqual(table.actions_since_snapshot(token), [SetElem(0, Row(0, 0, 0, MAX - 1))])
+        table.rollback_to(token)
+        self.assertEqual(table.probe_value(0).amount, MAX - 1)
+
     def test_module_example(self):
         self.assertEqual(doctest.testmod(meter, verbose=False).failed, 0)
 

@@ -96,7 +96,7 @@ fn read_damage(name: &[u8], words: &mut Words) -> Option<()> {
                 .numbers::<u64>(1)
                 .and_then(|()| words.numbers::<u32>(2))
         }
-        b"lend" => words.numbers::<u32>(10),
+        b"lend" => words.numbers::<u32>(4),
         _ => None,
     }
 }

@@ -1,7 +1,7 @@
 //! The entries of the log since a snapshot.
 
 use crate::call::{Key, Value};
-use crate::ffi::Memory;
+use crate::ffi::ENTRY;
 
 /// A row as it stands in memory. Rank and value mean something for a root alone.
 #[derive(Clone, Copy, Debug, PartialEq, Eq)]
@@ -26,14 +26,14 @@ pub enum UndoLog {
 /// The entries since a snapshot, oldest first: a view of the meter's log.
 #[derive(Clone, Debug)]
 pub struct Actions<'a> {
-    memory: &'a Memory,
+    log: &'a [u32],
     from: usize,
     to: usize,
 }
 
 impl<'a> Actions<'a> {
-    pub(crate) fn new(memory: &'a Memory, from: usize, to: usize) -> Actions<'a> {
-        Actions { memory, from, to }
+    pub(crate) fn new(log: &'a [u32], from: usize, to: usize) -> Actions<'a> {
+        Actions { log, from, to }
     }
 }
 
@@ -46,17 +46,17 @@ impl Iterator for Actions<'_> {
             return None;
         }
         self.from += 1;
-        let log = self.memory;
-        let key = Key::from_index(log.logkeys[at]);
+        let entry = &self.log[ENTRY * at..ENTRY * (at + 1)];
+        let (kind, key) = (entry[0], Key::from_index(entry[1]));
         // A meter's log holds kinds 1 and 2 alone: nobody else writes to it.
-        Some(match log.logkinds[at] {
+        Some(match kind {
             1 => UndoLog::NewElem(key),
             _ => UndoLog::SetElem(
                 key,
                 Row {
-                    parent: Key::from_index(log.logparents[at]),
-                    rank: log.logranks[at],
-                    value: Value::new(log.logowners[at], log.logamounts[at]),
+                    parent: Key::from_index(entry[2]),
+                    rank: entry[3],
+                    value: Value::new(entry[4], u64::from(entry[5]) | u64::from(entry[6]) << 32),
                 },
             ),
         })

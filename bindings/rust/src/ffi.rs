@@ -6,26 +6,25 @@ pub const SERIALS: usize = 33;
 pub const CALL: usize = 4;
 pub const ANSWER: usize = 9;
 
+/// How many numbers of `crowns` a row has (rank, owner), and how many of `log` an entry has (kind, key, and the old row's
+/// parent, rank, owner and amount, as a low and a high word).
+pub const CROWN: usize = 2;
+pub const ENTRY: usize = 7;
+
 /// What a table is lent: the state, the rows and the log. All zero is a fresh table.
 #[derive(Clone, Debug)]
 pub struct Memory {
     pub numbers: [u32; NUMBERS],
     pub serials: [u64; SERIALS],
     pub parents: Vec<u32>,
-    pub ranks: Vec<u32>,
-    pub owners: Vec<u32>,
+    pub crowns: Vec<u32>,
     pub amounts: Vec<u64>,
-    pub logkinds: Vec<u32>,
-    pub logkeys: Vec<u32>,
-    pub logparents: Vec<u32>,
-    pub logranks: Vec<u32>,
-    pub logowners: Vec<u32>,
-    pub logamounts: Vec<u64>,
+    pub log: Vec<u32>,
 }
 
 macro_rules! exported {
     ($parameters:tt) => {
-        /// What the archive exports: fourteen slices, each as a pointer and a length in elements, to a number.
+        /// What the archive exports: eight slices, each as a pointer and a length in elements, to a number.
         pub type Exported = unsafe extern "C" fn $parameters -> u32;
 
         extern "C" {
@@ -39,34 +38,22 @@ exported!((
     numbers: *mut u32, numbers_len: usize,
     serials: *mut u64, serials_len: usize,
     parents: *mut u32, parents_len: usize,
-    ranks: *mut u32, ranks_len: usize,
-    owners: *mut u32, owners_len: usize,
+    crowns: *mut u32, crowns_len: usize,
     amounts: *mut u64, amounts_len: usize,
-    logkinds: *mut u32, logkinds_len: usize,
-    logkeys: *mut u32, logkeys_len: usize,
-    logparents: *mut u32, logparents_len: usize,
-    logranks: *mut u32, logranks_len: usize,
-    logowners: *mut u32, logowners_len: usize,
-    logamounts: *mut u64, logamounts_len: usize,
+    log: *mut u32, log_len: usize,
     calls: *const u64, calls_len: usize,
     answers: *mut u64, answers_len: usize,
 ));
 
 impl Memory {
-    pub fn fresh(rows: usize, log: usize) -> Memory {
+    pub fn fresh(rows: usize, entries: usize) -> Memory {
         Memory {
             numbers: [0; NUMBERS],
             serials: [0; SERIALS],
             parents: vec![0; rows],
-            ranks: vec![0; rows],
-            owners: vec![0; rows],
+            crowns: vec![0; CROWN * rows],
             amounts: vec![0; rows],
-            logkinds: vec![0; log],
-            logkeys: vec![0; log],
-            logparents: vec![0; log],
-            logranks: vec![0; log],
-            logowners: vec![0; log],
-            logamounts: vec![0; log],
+            log: vec![0; ENTRY * entries],
         }
     }
 
@@ -98,15 +85,9 @@ impl Memory {
             self.numbers.as_mut_ptr(), self.numbers.len(),
             self.serials.as_mut_ptr(), self.serials.len(),
             self.parents.as_mut_ptr(), self.parents.len(),
-            self.ranks.as_mut_ptr(), self.ranks.len(),
-            self.owners.as_mut_ptr(), self.owners.len(),
+            self.crowns.as_mut_ptr(), self.crowns.len(),
             self.amounts.as_mut_ptr(), self.amounts.len(),
-            self.logkinds.as_mut_ptr(), self.logkinds.len(),
-            self.logkeys.as_mut_ptr(), self.logkeys.len(),
-            self.logparents.as_mut_ptr(), self.logparents.len(),
-            self.logranks.as_mut_ptr(), self.logranks.len(),
-            self.logowners.as_mut_ptr(), self.logowners.len(),
-            self.logamounts.as_mut_ptr(), self.logamounts.len(),
+            self.log.as_mut_ptr(), self.log.len(),
             calls.as_ptr(), calls.len(),
             answers.as_mut_ptr(), answers.len(),
         )

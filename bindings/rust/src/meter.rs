@@ -70,8 +70,8 @@ impl Meter {
         let at = key.index() as usize;
         (at < self.len()).then(|| Row {
             parent: Key::from_index(self.memory.parents[at]),
-            rank: self.memory.ranks[at],
-            value: Value::new(self.memory.owners[at], self.memory.amounts[at]),
+            rank: self.memory.crowns[ffi::CROWN * at],
+            value: Value::new(self.memory.crowns[ffi::CROWN * at + 1], self.memory.amounts[at]),
         })
     }
 
@@ -177,7 +177,7 @@ impl Meter {
     /// ```
     pub fn actions_since_snapshot(&mut self, token: Token) -> Result<Actions<'_>, Refusal> {
         let answer = self.ask(Call::Actions(token))?;
-        Ok(Actions::new(&self.memory, answer.from as usize, answer.to as usize))
+        Ok(Actions::new(&self.memory.log, answer.from as usize, answer.to as usize))
     }
 
     /// Whether anything was logged since an open snapshot.

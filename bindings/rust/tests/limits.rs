@@ -1,6 +1,6 @@
 //! Document 01's example 15, and tables at its limits.
 
-use meter::{Call, Key, Meter, Refusal, Value};
+use meter::{Call, Key, Meter, Refusal, UndoLog, Value};
 
 fn key(index: usize) -> Key {
     Key::from_index(index as u32)
@@ -73,4 +73,18 @@ fn thirty_two_snapshots() {
     }
     assert!(!meter.in_snapshot());
     assert_eq!(meter.snapshot().unwrap().serial(), 33);
+}
+
+/// The log holds an amount as two words.
+#[test]
+fn a_logged_amount_is_whole() {
+    let mut meter = Meter::new(1, 1).unwrap();
+    let a = meter.new_key(Value::new(0, u64::MAX - 1)).unwrap();
+    let before = meter.row(a).unwrap();
+    let token = meter.snapshot().unwrap();
+    meter.unify_var_value(a, Value::new(0, 1)).unwrap();
+    let actions: Vec<UndoLog> = meter.actions_since_snapshot(token).unwrap().collect();
+    assert_eq!(actions, [UndoLog::SetElem(a, before)]);
+    meter.rollback_to(token).unwrap();
+    assert_eq!(meter.row(a), Some(before));
 }

@@ -1,23 +1,22 @@
 -- Laws of logging a walk's rows before they are rewritten. Assumes nothing.
 use mathlib.Core.Path.{_≡_, refl, ap, sym, _∙_}
 use mathlib.Core.List.{List, [], _∷_}
-use Prim.Native.Nat.{ℕ, zero, suc, _+_, _-_, _≤_, _<_}
+use Prim.Native.Nat.{ℕ, suc, _+_, _-_, _≤_, _<_}
 use native.Mathlib.Omega.{arith}
 use lib.ListN.{length, getD, take, drop, length-take}
 use lib.Seq.{drop-cons, getD-take}
 use borrow.Author.Tests.{eq-eqb}
-use Rattle.rules.specs.Numbers.{MAX-ENTRIES, MAX-REDIRECTS}
+use Rattle.rules.specs.Numbers.{MAX-REDIRECTS}
 use Rattle.rules.specs.Lent.{Rows, Log}
 use Rattle.rules.specs.Write.{Memory, memory}
 use Rattle.snapshot_vec.specs.Bounds.{InRows, InLog}
+use Rattle.snapshot_vec.proofs.BoundLaws.{even-row}
 use Rattle.roots.specs.declared.path.Trail.{Trail}
-use Rattle.roots.specs.Trail.{rootOf, passedOf}
+use Rattle.roots.specs.Trail.{rootOf, passedOf, Sound}
 use Rattle.roots.specs.Saves.{saved, saves}
 use Rattle.roots.proofs.OffLaws.{passed-in}
-use Rattle.plans.specs.Walks.{Even, Sound}
-use Rattle.plans.proofs.PlanLaws.{even-row}
-use Rattle.plans.proofs.WalksLaws.{trail-length}
-use Rattle.carry.specs.Ready.{LevelLog, Ready}
+use Rattle.roots.proofs.TrailLaws.{trail-length}
+use Rattle.carry.specs.Ready.{Ready}
 
 -- nothing is logged with no snapshot open
 pub saves-shut : (passed : List ℕ) (m : Memory) → m .opened ≡ 0 → m ≡ saves passed m
@@ -51,19 +50,11 @@ saves-last passed m j h =
 
 -- ---- the loop of `log_walk`: the rows from `left` on are logged
 
-pub record SameLog (l l₀ : Log) : Type 0 where
-  pub kinds : length (l .kinds) ≡ length (l₀ .kinds)
-  pub keys : length (l .keys) ≡ length (l₀ .keys)
-  pub parents : length (l .old .parents) ≡ length (l₀ .old .parents)
-  pub ranks : length (l .old .ranks) ≡ length (l₀ .old .ranks)
-  pub owners : length (l .old .owners) ≡ length (l₀ .old .owners)
-  pub amounts : length (l .old .amounts) ≡ length (l₀ .old .amounts)
-
 pub record Logging (rs : Rows) (l₀ : Log) (opened used : ℕ) (nodes : List ℕ) (left₀ : ℕ) (l : Log) (left more : ℕ) : Type 0 where
   pub least : left ≤ left₀
   pub is : memory rs l opened more ≡ saves (drop left (take (suc left₀) nodes)) (memory rs l₀ opened used)
   pub logged : more + left ≡ used + left₀
-  pub kept : SameLog l l₀
+  pub kept : length l ≡ length l₀
 
 module _ (rs : Rows) (l₀ : Log) (opened used : ℕ) (nodes : List ℕ) (left₀ : ℕ) (size : length nodes ≡ 17) (low : left₀ < MAX-REDIRECTS) where
   long : length (take (suc left₀) nodes) ≡ suc left₀
@@ -75,13 +66,13 @@ module _ (rs : Rows) (l₀ : Log) (opened used : ℕ) (nodes : List ℕ) (left�
         least = omega arith;
         is = saves-last (take (suc left₀) nodes) (memory rs l₀ opened used) left₀ (sym long);
         logged = refl;
-        kept = record { kinds = refl; keys = refl; parents = refl; ranks = refl; owners = refl; amounts = refl };
+        kept = refl;
       }
 
   module _ (l : Log) (left more : ℕ) (L : Logging rs l₀ opened used nodes left₀ l left more) (h : 0 < left) where
     -- the next row is logged
     pub logging-goes-on : (l′ : Log) (more′ : ℕ) → memory rs l′ opened more′ ≡ saved (getD nodes (left - 1) 0) (memory rs l opened more)
-        → more′ ≡ more + 1 → SameLog l′ l → Logging rs l₀ opened used nodes left₀ l′ (left - 1) more′
+        → more′ ≡ more + 1 → length l′ ≡ length l → Logging rs l₀ opened used nodes left₀ l′ (left - 1) more′
     logging-goes-on l′ more′ e u k =
         let up : left ≡ suc (left - 1) = omega arith in
         let before : memory rs l opened more ≡ saves (drop (suc (left - 1)) (take (suc left₀) nodes)) (memory rs l₀ opened used) =
@@ -96,7 +87,7 @@ module _ (rs : Rows) (l₀ : Log) (opened used : ℕ) (nodes : List ℕ) (left�
               ∙ ap (λ (n : ℕ). saved n (saves (drop (suc (left - 1)) (take (suc left₀) nodes)) (memory rs l₀ opened used))) (sym node)
               ∙ saves-more (take (suc left₀) nodes) (memory rs l₀ opened used) (left - 1) (omega (arith, long));
           logged = omega (arith, L .logged);
-          kept = let a = L .kept in omega arith;
+          kept = k ∙ L .kept;
         }
 
 -- ---- what the loop asks
@@ -118,17 +109,11 @@ module _ (rs : Rows) (l₀ : Log) (opened used count : ℕ) (t : Trail) (S : Sou
     pub entry-in : InLog more l
     entry-in =
         let room = R .room n in
-        let level = R .log in
+        let limit = R .limit in
         let kept = L .kept in
         let logged = L .logged in
         let least = L .least in
-        let fits : more < length (l .kinds) = omega arith in
-        record {
-          kinds = fits;
-          keys = omega arith;
-          old = record { parents = omega arith; ranks = omega arith; owners = omega arith; amounts = omega arith };
-          limit = omega arith;
-        }
+        record { words = omega arith; limit = omega arith }
 
 -- ---- at the end
 

@@ -1,20 +1,18 @@
 -- A walk's rewrites: nothing for fewer than two steps, else the logged rows and the compressed parents. Assumes nothing.
 use mathlib.Core.Path.{_≡_, refl, ap, sym, _∙_}
 use mathlib.Core.List.{List, [], _∷_}
-use Prim.Native.Nat.{ℕ, suc, _-_, _≤_, _<_}
+use Prim.Native.Nat.{ℕ, _-_, _≤_, _<_}
 use native.Mathlib.Omega.{arith}
 use lib.ListN.{length, getD}
 use Rattle.rules.specs.Numbers.{MAX-REDIRECTS}
 use Rattle.rules.specs.Walk.{path}
 use Rattle.rules.specs.Write.{Write, Memory, memory, puts}
-use Rattle.rules.specs.Plan.{rewrites}
 use Rattle.roots.specs.declared.path.Trail.{Trail}
-use Rattle.roots.specs.Trail.{rootOf, passedOf, compress, Leads, Landed, landed, land}
+use Rattle.roots.specs.Trail.{rootOf, passedOf, compress, walkOf, Sound, Leads, Landed, landed, land}
 use Rattle.roots.specs.Saves.{withParents, saves}
 use Rattle.roots.proofs.RewriteLaws.{walk-puts}
-use Rattle.plans.specs.Walks.{Sound}
-use Rattle.plans.specs.Plans.{walkOf}
-use Rattle.carry.proofs.ReadyLaws.{walk-length, put-none}
+use Rattle.roots.proofs.TrailLaws.{walk-length}
+use Rattle.carry.proofs.ReadyLaws.{put-none}
 
 none-of : (ws : List Write) → length ws ≡ 0 → ws ≡ []
 none-of [] e = refl
@@ -23,7 +21,7 @@ none-of (w ∷ ws) e = absurd (omega arith)
 module _ (m : Memory) (count : ℕ) (t : Trail) (S : Sound (m .rows .parents) count t) where
   pub short-walk : t .steps < 2 → m ≡ puts m (walkOf t)
   short-walk h =
-      put-none m ∙ ap (λ (ws : List Write). puts m ws) (sym (none-of (walkOf t) (omega (arith, walk-length (m .rows .parents) count t S))))
+      put-none m ∙ ap (λ (ws : List Write). puts m ws) (sym (none-of (walkOf t) (omega (arith, walk-length t (S .short)))))
 
   pub leads : count ≤ length (m .rows .parents) → 2 ≤ t .steps → Leads (m .rows .parents) count MAX-REDIRECTS (getD (t .nodes) 0 0)
   leads le h = record { root = rootOf t; passed = passedOf t; there = S .there (omega arith); inside = le }

@@ -1,4 +1,3 @@
-// The one way to carry out a plan: room in the log is judged first, then rows are logged where a snapshot is open, and written.
+// A plan carried out: rows are logged where a snapshot is open, and written. That there is room was judged before.
 pub mod out;
-pub mod room;
 pub mod walk;

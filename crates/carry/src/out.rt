@@ -1,27 +1,22 @@
 ghost use mathlib.Core.Path.{_≡_};
-ghost use mathlib.Core.List.{[], _∷_};
+ghost use mathlib.Core.List.{[], _∷_, _++_};
 ghost use lib.ListN.{length};
-ghost use Prim.Native.Nat.{_-_, _<_, _≤_};
-ghost use Rattle.rules.specs.Contract.{memoryNow, memoryLent, rowsNow};
+ghost use Prim.Native.Nat.{_+_, _-_, _<_};
+ghost use Rattle.rules.specs.Contract.{memoryNow, memoryLent};
 ghost use Rattle.rules.specs.Write.{redirect, crown, puts};
-ghost use Rattle.plans.specs.Plans.{finishOf, todoOf, Inside, Doable};
+ghost use Rattle.roots.specs.Trail.{walkOf, compressed, Sound};
+ghost use Rattle.plans.specs.Plans.{finishOf, andThen, InsideEnd};
 ghost use Rattle.carry.specs.Ready.{Ready};
-use plans::plan::Finish;
-use plans::plan::Todo;
+use plans::verdict::Finish;
+use roots::path::Trail;
 use rules::table::Value;
 
-// Redirects one root to another, which gets a rank and a value.
+// Redirects one root to another, which gets a rank and a value: ena's `redirect_root`.
 fn redirect_root(
     parents: &mut [u32],
-    ranks: &mut [u32],
-    owners: &mut [u32],
+    crowns: &mut [u32],
     amounts: &mut [u64],
-    logkinds: &mut [u32],
-    logkeys: &mut [u32],
-    logparents: &mut [u32],
-    logranks: &mut [u32],
-    logowners: &mut [u32],
-    logamounts: &mut [u64],
+    log: &mut [u32],
     count: u32,
     opened: u32,
     used: u32,
@@ -30,23 +25,17 @@ fn redirect_root(
     new_root: u32,
     new_value: Value,
 ) -> u32
-    requires { ⌜ Ready count 2 (memoryNow parents ranks owners amounts logkinds logkeys logparents logranks logowners logamounts opened used) ⌝ }
+    requires { ⌜ Ready count 2 (memoryNow parents crowns amounts log opened used) ⌝ }
     requires { ⌜ «old_root» < count ⌝ }
     requires { ⌜ «new_root» < count ⌝ }
-    ensures { let m = memoryLent parents ranks owners amounts logkinds logkeys logparents logranks logowners logamounts in
+    ensures { let m = memoryLent parents crowns amounts log in
         λ r. ⌜ m .exit opened r ≡ puts (m .entry opened used) (redirect «old_root» «new_root» ∷ crown «new_root» «new_rank» «new_value» ∷ []) ⌝ }
 {
     let more = snapshot_vec::update::redirect(
         parents,
-        ranks,
-        owners,
+        crowns,
         amounts,
-        logkinds,
-        logkeys,
-        logparents,
-        logranks,
-        logowners,
-        logamounts,
+        log,
         opened,
         used,
         old_root,
@@ -54,15 +43,9 @@ fn redirect_root(
     );
     snapshot_vec::update::crown(
         parents,
-        ranks,
-        owners,
+        crowns,
         amounts,
-        logkinds,
-        logkeys,
-        logparents,
-        logranks,
-        logowners,
-        logamounts,
+        log,
         opened,
         more,
         new_root,
@@ -74,38 +57,25 @@ fn redirect_root(
 // Writes what stands at the end of a plan, at the roots.
 pub fn finish(
     parents: &mut [u32],
-    ranks: &mut [u32],
-    owners: &mut [u32],
+    crowns: &mut [u32],
     amounts: &mut [u64],
-    logkinds: &mut [u32],
-    logkeys: &mut [u32],
-    logparents: &mut [u32],
-    logranks: &mut [u32],
-    logowners: &mut [u32],
-    logamounts: &mut [u64],
+    log: &mut [u32],
     count: u32,
     opened: u32,
     used: u32,
     end: Finish,
 ) -> u32
-    requires { ⌜ Ready count (length (finishOf end)) (memoryNow parents ranks owners amounts logkinds logkeys logparents logranks logowners logamounts opened used) ⌝ }
-    requires { ⌜ Inside count end ⌝ }
-    ensures { let m = memoryLent parents ranks owners amounts logkinds logkeys logparents logranks logowners logamounts in
-        λ r. ⌜ m .exit opened r ≡ puts (m .entry opened used) (finishOf end) ⌝ }
+    requires { ⌜ Ready count (length (finishOf end)) (memoryNow parents crowns amounts log opened used) ⌝ }
+    requires { ⌜ InsideEnd count end ⌝ }
+    ensures { let m = memoryLent parents crowns amounts log in λ r. ⌜ m .exit opened r ≡ puts (m .entry opened used) (finishOf end) ⌝ }
 {
     match end {
         Finish::Nothing => used,
         Finish::Crown(key, rank, value) => snapshot_vec::update::crown(
             parents,
-            ranks,
-            owners,
+            crowns,
             amounts,
-            logkinds,
-            logkeys,
-            logparents,
-            logranks,
-            logowners,
-            logamounts,
+            log,
             opened,
             used,
             key,
@@ -114,15 +84,9 @@ pub fn finish(
         ),
         Finish::Unite(old, new, rank, value) => redirect_root(
             parents,
-            ranks,
-            owners,
+            crowns,
             amounts,
-            logkinds,
-            logkeys,
-            logparents,
-            logranks,
-            logowners,
-            logamounts,
+            log,
             count,
             opened,
             used,
@@ -134,77 +98,27 @@ pub fn finish(
     }
 }
 
-// Carries out all that a plan writes, in its order.
+// Two walks, either of which may be idle, and then the end at the roots.
 pub fn carry_out(
     parents: &mut [u32],
-    ranks: &mut [u32],
-    owners: &mut [u32],
+    crowns: &mut [u32],
     amounts: &mut [u64],
-    logkinds: &mut [u32],
-    logkeys: &mut [u32],
-    logparents: &mut [u32],
-    logranks: &mut [u32],
-    logowners: &mut [u32],
-    logamounts: &mut [u64],
+    log: &mut [u32],
     count: u32,
     opened: u32,
     used: u32,
-    todo: Todo,
+    first: Trail,
+    second: Trail,
+    end: Finish,
 ) -> u32
-    requires { ⌜ Ready count (length (todoOf todo)) (memoryNow parents ranks owners amounts logkinds logkeys logparents logranks logowners logamounts opened used) ⌝ }
-    requires { ⌜ Doable (rowsNow parents ranks owners amounts) count todo ⌝ }
-    ensures { let m = memoryLent parents ranks owners amounts logkinds logkeys logparents logranks logowners logamounts in
-        λ r. ⌜ m .exit opened r ≡ puts (m .entry opened used) (todoOf todo) ⌝ }
+    requires { ⌜ Ready count (length (walkOf first) + (length (walkOf second) + length (finishOf end))) (memoryNow parents crowns amounts log opened used) ⌝ }
+    requires { ⌜ Sound (now parents) count first ⌝ }
+    requires { ⌜ Sound (compressed first (now parents)) count second ⌝ }
+    requires { ⌜ InsideEnd count end ⌝ }
+    ensures { let m = memoryLent parents crowns amounts log in
+        λ r. ⌜ m .exit opened r ≡ puts (m .entry opened used) (andThen (walkOf first ++ walkOf second) end) ⌝ }
 {
-    let first = todo.first;
-    let second = todo.second;
-    let end = todo.finish;
-    let one = crate::walk::rewrite(
-        parents,
-        ranks,
-        owners,
-        amounts,
-        logkinds,
-        logkeys,
-        logparents,
-        logranks,
-        logowners,
-        logamounts,
-        count,
-        opened,
-        used,
-        first,
-    );
-    let two = crate::walk::rewrite(
-        parents,
-        ranks,
-        owners,
-        amounts,
-        logkinds,
-        logkeys,
-        logparents,
-        logranks,
-        logowners,
-        logamounts,
-        count,
-        opened,
-        one,
-        second,
-    );
-    finish(
-        parents,
-        ranks,
-        owners,
-        amounts,
-        logkinds,
-        logkeys,
-        logparents,
-        logranks,
-        logowners,
-        logamounts,
-        count,
-        opened,
-        two,
-        end,
-    )
+    let one = crate::walk::rewrite(parents, crowns, amounts, log, count, opened, used, first);
+    let two = crate::walk::rewrite(parents, crowns, amounts, log, count, opened, one, second);
+    finish(parents, crowns, amounts, log, count, opened, two, end)
 }

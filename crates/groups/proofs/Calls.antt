@@ -1,5 +1,5 @@
 -- Every call keeps what a table stands for, and is never answered BROKEN_TABLE or BAD_STATE; and a fresh table stands for nothing yet.
-use mathlib.Core.Path.{_≡_, refl, sym, _∙_}
+use mathlib.Core.Path.{_≡_, refl}
 use mathlib.Core.Bool.{false}
 use mathlib.Core.List.{List, [], _∷_}
 use Prim.Native.Nat.{ℕ, zero-le}
@@ -7,10 +7,10 @@ use native.Mathlib.Omega.{arith}
 use lib.Dec.{ltb}
 use Rattle.rules.specs.declared.call.Call.{Call}
 use Rattle.rules.specs.declared.call.Call.the-variants.{New, Len, Find, Unioned, Join, Post, Probe, ProbeKey, TryProbe, Snapshot, Rollback, Commit, Keys, Actions, Changes}
-use Rattle.rules.specs.Lent.{Rows, Log, Table, table, value, ownerOf, fresh}
-use Rattle.rules.specs.Answer.{said, range, opened}
+use Rattle.rules.specs.Lent.{Rows, Log, Table, table, value, ownerOf, fresh, headOf}
+use Rattle.rules.specs.Answer.{said, range}
 use Rattle.rules.specs.Plan.{findOn, unionedOn, joinOn, postOn, probeOn, probeKeyOn, tryProbe}
-use Rattle.rules.specs.Refusal.{sizesOf, bad}
+use Rattle.rules.specs.Refusal.{sizesOf, badTable}
 use Rattle.rules.proofs.StateLaws.{good-bad}
 use Rattle.rules.specs.Step.{call, step}
 use Rattle.groups.specs.Groups.{replay}
@@ -55,25 +55,14 @@ module _ {over : ℕ → Rows} {t : Table} {h : History} (S : StandsOver over t 
   nothing-used (x ∷ xs) e z = absurd (busy S x xs e z)
 
   -- The state and what is lent are not bad.
-  not-bad : bad (sizesOf t) (t .state) ≡ false
+  not-bad : badTable t ≡ false
   not-bad =
       let R = S .lends .row-parts in
       let L = S .lends .log-parts in
-      good-bad (sizesOf t) (t .state) (record {
-        level = record {
-          ranks = R .1 ∙ sym (R .0);
-          owners = R .2 ∙ sym (R .0);
-          amounts = R .3 ∙ sym (R .0);
-          keys = L .1 ∙ sym (L .0);
-          old-parents = L .2 .0 ∙ sym (L .0);
-          old-ranks = L .2 .1 ∙ sym (L .0);
-          old-owners = L .2 .2 ∙ sym (L .0);
-          old-amounts = L .2 .3 ∙ sym (L .0);
-        };
-        rows = rw (R .0) (S .lends .row-limit);
-        log = rw (L .0) (S .lends .log-limit);
-        count = rw (R .0) (S .fits);
-        used = rw (L .0) (S .log-fits);
+      good-bad (sizesOf (t .rows) (t .log)) (headOf (t .state)) (record {
+        level = omega (arith, R, L, S .lends .row-limit, S .lends .log-limit);
+        count = omega (arith, R, S .fits);
+        used = omega (arith, L, S .log-fits);
         opened = omega (arith, S .opened, S .open-fits);
         shut = nothing-used (track h .saved) refl;
       })

@@ -7,8 +7,8 @@ use native.Mathlib.Omega.{arith}
 use Rattle.rules.specs.declared.table.Value.{Value}
 use Rattle.rules.specs.declared.table.Row.{Row}
 use Rattle.rules.specs.Lent.{Rows, row, valueOf, rowAt}
-use Rattle.groups.specs.Groups.{Groups, noGroups, created, at, shift, hung, step}
-use Rattle.groups.specs.Stands.{up, high, Leads, here, along, Shows, Alike}
+use Rattle.groups.specs.Groups.{Groups, noGroups, created, at, shift, hung, groupStep}
+use Rattle.groups.specs.Stands.{up, high, LeadsTo, here, along, Shows, Alike}
 use Rattle.groups.proofs.Tools.{bySame, upTo}
 use Rattle.groups.proofs.SumLaws.{at-hit, at-miss, shift-hit, shift-miss}
 use Rattle.groups.proofs.Whole.{Whole, Hangs}
@@ -16,20 +16,20 @@ use Rattle.groups.proofs.Whole.{Whole, Hangs}
 -- ---- where a key leads
 
 module _ {p : ℕ → ℕ} where
-  pub leads-root : {i r : ℕ} → Leads p i r → p r ≡ r
+  pub leads-root : {i r : ℕ} → LeadsTo p i r → p r ≡ r
   leads-root (here e q) = subst (λ (x : ℕ). p x ≡ x) q e
   leads-root (along l) = leads-root l
 
-  pub leads-fixed : {i r : ℕ} → p i ≡ i → Leads p i r → i ≡ r
+  pub leads-fixed : {i r : ℕ} → p i ≡ i → LeadsTo p i r → i ≡ r
   leads-fixed e (here _ q) = q
   leads-fixed e (along l) = sym e ∙ leads-fixed (ap p e) l
 
-  pub leads-same : {i r s : ℕ} → Leads p i r → Leads p i s → r ≡ s
+  pub leads-same : {i r s : ℕ} → LeadsTo p i r → LeadsTo p i s → r ≡ s
   leads-same (here e q) m = sym q ∙ leads-fixed e m
   leads-same (along l) (here e q) = sym (leads-fixed (ap p e) l) ∙ e ∙ q
   leads-same (along l) (along m) = leads-same l m
 
-  pub leads-next : {i r : ℕ} → Leads p i r → Leads p (p i) r
+  pub leads-next : {i r : ℕ} → LeadsTo p i r → LeadsTo p (p i) r
   leads-next (here e q) = here (ap p e) (e ∙ q)
   leads-next (along l) = l
 
@@ -44,8 +44,7 @@ wrote-keeps : {A : Type 0} (f : Row → A) (rs rs′ : Rows) (x : ℕ) (r : Row)
     → f (rowAt rs′ j) ≡ f (rowAt rs j)
 wrote-keeps f rs rs′ x r w e j =
     bySame j x
-    (λ q. subst⁻¹ (λ (z : ℕ). f (rowAt rs′ z) ≡ f (rowAt rs z)) q (ap f (w .0) ∙ e))
-    (λ d. ap f (w .1 j d))
+    (λ q. rw q (ap f (w .0) ∙ e)) (λ d. ap f (w .1 j d))
 
 module _ {rs : Rows} {g : Groups} (S : Shows rs g) where
   root-up : (i : ℕ) → i < g .count → up rs (g .root i) ≡ g .root i
@@ -63,25 +62,24 @@ module _ {rs : Rows} {g : Groups} (S : Shows rs g) where
   rank-step : (i : ℕ) → i < g .count → high rs i ≤ high rs (up rs i)
   rank-step i h = bySame (up rs i) i (λ e. le-of-eq (ap (high rs) (sym e))) (λ d. omega (arith, S .rises i h d))
 
-  pub rank-up : {i r : ℕ} → Leads (up rs) i r → i < g .count → high rs i ≤ high rs r
+  pub rank-up : {i r : ℕ} → LeadsTo (up rs) i r → i < g .count → high rs i ≤ high rs r
   rank-up (here e q) h = le-of-eq (ap (high rs) q)
   rank-up {i} (along l) h = le-trans (rank-step i h) (rank-up l (S .inside i h))
 
   -- Only the rows below the count are looked at.
   module _ (rs′ : Rows) (same : Alike (g .count) rs rs′) where
-    alike-leads : {i r : ℕ} → Leads (up rs) i r → i < g .count → Leads (up rs′) i r
+    alike-leads : {i r : ℕ} → LeadsTo (up rs) i r → i < g .count → LeadsTo (up rs′) i r
     alike-leads {i} (here e q) h = here (sym (ap (λ (x : Row). x .parent) (same i h)) ∙ e) q
     alike-leads {i} {r} (along l) h =
-        along (subst (λ (z : ℕ). Leads (up rs′) z r) (ap (λ (x : Row). x .parent) (same i h)) (alike-leads l (S .inside i h)))
+        along (subst (λ (z : ℕ). LeadsTo (up rs′) z r) (ap (λ (x : Row). x .parent) (same i h)) (alike-leads l (S .inside i h)))
 
     pub shows-alike : Shows rs′ g
     shows-alike =
         let pa : (i : ℕ) → i < g .count → up rs′ i ≡ up rs i = λ i h. sym (ap (λ (x : Row). x .parent) (same i h)) in
         let ra : (i : ℕ) → i < g .count → high rs′ i ≡ high rs i = λ i h. sym (ap (λ (x : Row). x .rank) (same i h)) in
         record {
-          inside = λ i h. subst⁻¹ (λ (z : ℕ). z < g .count) (pa i h) (S .inside i h);
-          rises = λ i h d. subst⁻¹ (λ (z : ℕ). high rs′ i < high rs′ z) (pa i h)
-              (omega (arith, ra i h, ra (up rs i) (S .inside i h), S .rises i h (λ e. d (pa i h ∙ e))));
+          inside = λ i h. rw (pa i h) (S .inside i h);
+          rises = λ i h d. rw (pa i h) (omega (arith, ra i h, ra (up rs i) (S .inside i h), S .rises i h (λ e. d (pa i h ∙ e))));
           leads = λ i h. alike-leads (S .leads i h) h;
           ranks = λ r h e. ra r h ∙ S .ranks r h (sym (pa r h) ∙ e);
           values = λ r h e. sym (ap valueOf (same r h)) ∙ S .values r h (sym (pa r h) ∙ e);
@@ -112,34 +110,24 @@ module _ {rs : Rows} {g : Groups} (S : Shows rs g) where
     was : (r : ℕ) → up rs′ r ≡ r → up rs r ≡ r
     was r e = bySame r x (λ q. absurd (nx (sym moved ∙ subst (λ (z : ℕ). up rs′ z ≡ z) q e))) (λ d. sym (else-up r d) ∙ e)
 
-    turned : Leads (up rs′) x (g .root x)
+    turned : LeadsTo (up rs′) x (g .root x)
     turned = along (here (stays (up rs′ x) (subst⁻¹ (λ (z : ℕ). up rs z ≡ z) moved (root-up x hx))) moved)
 
-    again : {i r : ℕ} → Leads (up rs) i r → i < g .count → Leads (up rs′) i r
+    again : {i r : ℕ} → LeadsTo (up rs) i r → i < g .count → LeadsTo (up rs′) i r
     again {i} (here e q) h = here (stays i e) q
     again {i} {r} (along l) h =
         bySame i x
-        (λ e. let l′ : Leads (up rs) x r = subst (λ (z : ℕ). Leads (up rs) z r) e (along l) in
-        subst⁻¹ (λ (z : ℕ). Leads (up rs′) z r) e (subst (λ (z : ℕ). Leads (up rs′) x z) (leads-same (S .leads x hx) l′) turned))
-        (λ d. along (subst⁻¹ (λ (z : ℕ). Leads (up rs′) z r) (else-up i d) (again l (S .inside i h))))
+        (λ e. let l′ : LeadsTo (up rs) x r = subst (λ (z : ℕ). LeadsTo (up rs) z r) e (along l) in
+        subst⁻¹ (λ (z : ℕ). LeadsTo (up rs′) z r) e (subst (λ (z : ℕ). LeadsTo (up rs′) x z) (leads-same (S .leads x hx) l′) turned))
+        (λ d. along (subst⁻¹ (λ (z : ℕ). LeadsTo (up rs′) z r) (else-up i d) (again l (S .inside i h))))
 
     pub compressed : Shows rs′ g
     compressed = record {
-      inside = λ i h. bySame i x
-          (λ e. subst⁻¹ (λ (z : ℕ). z < g .count) (ap (up rs′) e ∙ moved) (W .within x hx))
-          (λ d. subst⁻¹ (λ (z : ℕ). z < g .count) (else-up i d) (S .inside i h));
+      inside = λ i h. bySame i x (λ e. rw (e, moved) (W .within x hx)) (λ d. rw (else-up i d) (S .inside i h));
       rises = λ i h m. bySame i x
-          (λ e. subst⁻¹ (λ (z : ℕ). high rs′ z < high rs′ (up rs′ z)) e (subst⁻¹ (λ (z : ℕ). high rs′ x < high rs′ z) moved
-          (omega (
-            arith,
-            same-rank x,
-            same-rank (g .root x),
-            S .rises x hx no-root,
-            rank-up (leads-next (S .leads x hx))
-                (S .inside x hx),
-          ))))
-          (λ d. subst⁻¹ (λ (z : ℕ). high rs′ i < high rs′ z) (else-up i d)
-          (omega (arith, same-rank i, same-rank (up rs i), S .rises i h (λ q. m (else-up i d ∙ q)))));
+          (λ e. let u = rank-up (leads-next (S .leads x hx)) (S .inside x hx) in
+          rw (e, moved) (omega (arith, same-rank x, same-rank (g .root x), S .rises x hx no-root, u)))
+          (λ d. rw (else-up i d) (omega (arith, same-rank i, same-rank (up rs i), S .rises i h (λ q. m (else-up i d ∙ q)))));
       leads = λ i h. again (S .leads i h) h;
       ranks = λ r h e. same-rank r ∙ S .ranks r h (was r e);
       values = λ r h e. same-value r ∙ S .values r h (was r e);
@@ -157,17 +145,13 @@ module _ {rs : Rows} {g : Groups} (S : Shows rs g) where
     top-up = is-root top (H .high-live) (H .high-root)
 
     up-else : (j : ℕ) → j ≢ low → up rs′ j ≡ up rs j
-    up-else j d = bySame j top
-        (λ e. subst⁻¹ (λ (z : ℕ). up rs′ z ≡ up rs z) e (ap (λ (z : Row). z .parent) wt))
-        (λ d′. ap (λ (z : Row). z .parent) (rest j d d′))
+    up-else j d = bySame j top (λ e. rw e (ap (λ (z : Row). z .parent) wt)) (λ d′. ap (λ (z : Row). z .parent) (rest j d d′))
 
     rank-top : high rs′ top ≡ k
     rank-top = ap (λ (z : Row). z .rank) wt
 
     rank-else : (j : ℕ) → j ≢ top → high rs′ j ≡ high rs j
-    rank-else j d = bySame j low
-        (λ e. subst⁻¹ (λ (z : ℕ). high rs′ z ≡ high rs z) e (ap (λ (z : Row). z .rank) wl))
-        (λ d′. ap (λ (z : Row). z .rank) (rest j d′ d))
+    rank-else j d = bySame j low (λ e. rw e (ap (λ (z : Row). z .rank) wl)) (λ d′. ap (λ (z : Row). z .rank) (rest j d′ d))
 
     low-rank : high rs low ≡ g .rank low
     low-rank = S .ranks low (H .low-live) (is-root low (H .low-live) (H .low-root))
@@ -176,29 +160,25 @@ module _ {rs : Rows} {g : Groups} (S : Shows rs g) where
     top-rank = S .ranks top (H .high-live) top-up
 
     rank-grows : (i : ℕ) → high rs i ≤ high rs′ i
-    rank-grows i = bySame i top
-        (λ e. subst⁻¹ (λ (z : ℕ). high rs z ≤ high rs′ z) e (omega (arith, rank-top, top-rank, H .ranked .stays)))
-        (λ d. le-of-eq (sym (rank-else i d)))
+    rank-grows i = bySame i top (λ e. rw e (omega (arith, rank-top, top-rank, H .ranked .stays))) (λ d. le-of-eq (sym (rank-else i d)))
 
     top-stays : up rs′ top ≡ top
     top-stays = up-else top (λ e. H .apart (sym e)) ∙ top-up
 
-    low-turned : Leads (up rs′) low top
+    low-turned : LeadsTo (up rs′) low top
     low-turned = along (here (subst⁻¹ (λ (z : ℕ). up rs′ z ≡ z) up-low top-stays) up-low)
 
-    joined-leads : {i q : ℕ} → Leads (up rs) i q → i < g .count → Leads (up rs′) i (shift (λ z. z) low top q)
+    joined-leads : {i q : ℕ} → LeadsTo (up rs) i q → i < g .count → LeadsTo (up rs′) i (shift (λ z. z) low top q)
     joined-leads {i} {q} (here e d) h =
         bySame i low
-        (λ m. subst⁻¹ (λ (z : ℕ). Leads (up rs′) i z) (shift-hit (λ z. z) low top q (sym d ∙ m))
-        (subst⁻¹ (λ (z : ℕ). Leads (up rs′) z top) m low-turned))
-        (λ m. subst⁻¹ (λ (z : ℕ). Leads (up rs′) i z) (shift-miss (λ z. z) low top q (λ t. m (d ∙ t))) (here (up-else i m ∙ e) d))
+        (λ m. rw (shift-hit (λ z. z) low top q (sym d ∙ m), m) low-turned)
+        (λ m. rw (shift-miss (λ z. z) low top q (λ t. m (d ∙ t))) (here (up-else i m ∙ e) d))
     joined-leads {i} {q} (along l) h =
         bySame i low
-        (λ m. subst⁻¹ (λ (z : ℕ). Leads (up rs′) i z)
-        (shift-hit (λ z. z) low top q (sym (leads-fixed (is-root low (H .low-live) (H .low-root))
-        (subst (λ (z : ℕ). Leads (up rs) z q) m (along l)))))
-        (subst⁻¹ (λ (z : ℕ). Leads (up rs′) z top) m low-turned))
-        (λ m. along (subst⁻¹ (λ (z : ℕ). Leads (up rs′) z (shift (λ z. z) low top q)) (up-else i m) (joined-leads l (S .inside i h))))
+        (λ m.
+        let q-low = leads-fixed (is-root low (H .low-live) (H .low-root)) (subst (λ (z : ℕ). LeadsTo (up rs) z q) m (along l)) in
+        rw (shift-hit (λ z. z) low top q (sym q-low), m) low-turned)
+        (λ m. along (rw (up-else i m) (joined-leads l (S .inside i h))))
 
     not-low : (q : ℕ) → up rs′ q ≡ q → q ≢ low
     not-low q e m = H .apart (sym (sym up-low ∙ subst (λ (z : ℕ). up rs′ z ≡ z) m e))
@@ -208,23 +188,18 @@ module _ {rs : Rows} {g : Groups} (S : Shows rs g) where
 
     pub hung-shows : Shows rs′ (hung g low top k v)
     hung-shows = record {
-      inside = λ i h. bySame i low
-          (λ e. subst⁻¹ (λ (z : ℕ). z < g .count) (ap (up rs′) e ∙ up-low) (H .high-live))
-          (λ d. subst⁻¹ (λ (z : ℕ). z < g .count) (up-else i d) (S .inside i h));
+      inside = λ i h. bySame i low (λ e. rw (e, up-low) (H .high-live)) (λ d. rw (up-else i d) (S .inside i h));
       rises = λ i h m. bySame i low
-          (λ e. subst⁻¹ (λ (z : ℕ). high rs′ z < high rs′ (up rs′ z)) e (subst⁻¹ (λ (z : ℕ). high rs′ low < high rs′ z) up-low
-          (omega (arith, rank-top, rank-else low (H .apart), low-rank, H .ranked .above))))
+          (λ e. rw (e, up-low) (omega (arith, rank-top, rank-else low (H .apart), low-rank, H .ranked .above)))
           (λ d. bySame i top
           (λ e. absurd (m (subst⁻¹ (λ (z : ℕ). up rs′ z ≡ z) e top-stays)))
-          (λ d′. subst⁻¹ (λ (z : ℕ). high rs′ i < high rs′ z) (up-else i d)
-          (omega (arith, rank-else i d′, rank-grows (up rs i), S .rises i h (λ q. m (up-else i d ∙ q))))));
+          (λ d′. rw (up-else i d) (omega (arith, rank-else i d′, rank-grows (up rs i), S .rises i h (λ q. m (up-else i d ∙ q))))));
       leads = λ i h. joined-leads (S .leads i h) h;
       ranks = λ q h e. bySame q top
-          (λ m. subst⁻¹ (λ (z : ℕ). high rs′ z ≡ at top k (g .rank) z) m (rank-top ∙ sym (at-hit top k (g .rank) top refl)))
+          (λ m. rw m (rank-top ∙ sym (at-hit top k (g .rank) top refl)))
           (λ d. rank-else q d ∙ S .ranks q h (old-root q e) ∙ sym (at-miss top k (g .rank) q d));
       values = λ q h e. bySame q top
-          (λ m. subst⁻¹ (λ (z : ℕ). valueOf (rowAt rs′ z) ≡ at top v (g .value) z) m
-          (ap valueOf wt ∙ sym (at-hit top v (g .value) top refl)))
+          (λ m. rw m (ap valueOf wt ∙ sym (at-hit top v (g .value) top refl)))
           (λ d. ap valueOf (rest q (not-low q e) d) ∙ S .values q h (old-root q e) ∙ sym (at-miss top v (g .value) q d));
     }
 
@@ -237,43 +212,35 @@ module _ {rs : Rows} {g : Groups} (S : Shows rs g) where
         let ra : (j : ℕ) → high rs′ j ≡ high rs j = wrote-keeps (λ z. z .rank) rs rs′ r (row (up rs r) (high rs r) v) w refl in
         let same : up rs′ ≡ up rs = fun-ext pa in
         record {
-          inside = λ i h. subst⁻¹ (λ (z : ℕ). z < g .count) (pa i) (S .inside i h);
-          rises =
-              λ i h d. subst⁻¹ (λ (z : ℕ). high rs′ i < high rs′ z) (pa i)
-              (omega (arith, ra i, ra (up rs i), S .rises i h (λ e. d (pa i ∙ e))));
-          leads = λ i h. subst⁻¹ (λ (p : ℕ → ℕ). Leads p i (g .root i)) same (S .leads i h);
+          inside = λ i h. rw (pa i) (S .inside i h);
+          rises = λ i h d. rw (pa i) (omega (arith, ra i, ra (up rs i), S .rises i h (λ e. d (pa i ∙ e))));
+          leads = λ i h. subst⁻¹ (λ (p : ℕ → ℕ). LeadsTo p i (g .root i)) same (S .leads i h);
           ranks = λ q h e. ra q ∙ S .ranks q h (sym (pa q) ∙ e);
           values = λ q h e. bySame q r
-              (λ m. subst⁻¹ (λ (z : ℕ). valueOf (rowAt rs′ z) ≡ at r v (g .value) z) m
-              (ap valueOf (w .0) ∙ sym (at-hit r v (g .value) r refl)))
+              (λ m. rw m (ap valueOf (w .0) ∙ sym (at-hit r v (g .value) r refl)))
               (λ d. ap valueOf (w .1 q d) ∙ S .values q h (sym (pa q) ∙ e) ∙ sym (at-miss r v (g .value) q d));
         }
 
   -- ---- a new key
 
   module _ (W : Whole g) (rs′ : Rows) (v : Value) (w : Wrote rs rs′ (g .count) (row (g .count) 0 v)) where
-    pub created-shows : Shows rs′ (step g (created (g .count) v))
-    unfolding step
+    pub created-shows : Shows rs′ (groupStep g (created (g .count) v))
+    unfolding groupStep
     created-shows =
         let n : ℕ = g .count in
         let not-n : (i : ℕ) → i < n → i ≢ n = λ i h e. omega arith in
         let A : Shows rs′ g = shows-alike rs′ (λ i h. sym (w .1 i (not-n i h))) in
         let own : up rs′ n ≡ n = ap (λ (z : Row). z .parent) (w .0) in
         record {
-          inside = λ i h. upTo n i h
-              (λ e. subst⁻¹ (λ (z : ℕ). up rs′ z < suc n) e (subst⁻¹ (λ (z : ℕ). z < suc n) own (le-refl (suc n))))
-              (λ h′. le-step (A .inside i h′));
+          inside = λ i h. upTo n i h (λ e. rw (e, own) (le-refl (suc n))) (λ h′. le-step (A .inside i h′));
           rises = λ i h d. upTo n i h (λ e. absurd (d (ap (up rs′) e ∙ own ∙ sym e))) (λ h′. A .rises i h′ d);
           leads = λ i h. upTo n i h
-              (λ e. subst⁻¹ (λ (z : ℕ). Leads (up rs′) z (g .root z)) e (here own (sym (W .outside n (le-refl n)))))
-              (λ h′. A .leads i h′);
+              (λ e. rw e (here own (sym (W .outside n (le-refl n))))) (λ h′. A .leads i h′);
           ranks = λ i h e. upTo n i h
-              (λ m. subst⁻¹ (λ (z : ℕ). high rs′ z ≡ at n 0 (g .rank) z) m
-              (ap (λ (z : Row). z .rank) (w .0) ∙ sym (at-hit n 0 (g .rank) n refl)))
+              (λ m. rw m (ap (λ (z : Row). z .rank) (w .0) ∙ sym (at-hit n 0 (g .rank) n refl)))
               (λ h′. A .ranks i h′ e ∙ sym (at-miss n 0 (g .rank) i (not-n i h′)));
           values = λ i h e. upTo n i h
-              (λ m. subst⁻¹ (λ (z : ℕ). valueOf (rowAt rs′ z) ≡ at n v (g .value) z) m
-              (ap valueOf (w .0) ∙ sym (at-hit n v (g .value) n refl)))
+              (λ m. rw m (ap valueOf (w .0) ∙ sym (at-hit n v (g .value) n refl)))
               (λ h′. A .values i h′ e ∙ sym (at-miss n v (g .value) i (not-n i h′)));
         }
 

@@ -3,17 +3,20 @@ use mathlib.Core.Path.{_≡_, refl}
 use mathlib.Core.Bool.{false}
 use mathlib.Core.List.{List, _∷_, _++_}
 use Prim.Native.Nat.{ℕ, _≤_}
+use lib.ListN.{length}
 use lib.Dec.{eqb}
 use Rattle.rules.specs.declared.call.Call.{Call}
 use Rattle.rules.specs.declared.call.Answer.{Answer}
-use Rattle.rules.specs.Numbers.{DONE}
-use Rattle.rules.specs.Lent.{Rows, Log, Table, table, markAt, counting}
-use Rattle.rules.specs.Answer.{answer, refusal, opened}
+use Rattle.rules.specs.Numbers.{DONE, BROKEN-TABLE, BAD-STATE, MAX-OPEN}
+use Rattle.rules.specs.Lent.{Rows, Log, Table, table, markAt, head, withHead}
+use Rattle.rules.specs.Wide.{WideRows}
+use Rattle.rules.specs.Answer.{refusal}
 use Rattle.rules.specs.Refusal.{Outcome, outcome, refused}
+use Rattle.groups.specs.Groups.{Deed}
 use Rattle.groups.specs.Track.{Calm, Event, event, History, Act, idle, moves, takes, undoes, closes, act, deedOf, Saved, Track, noted, track, newer, lastToken, Follows, Orderly}
-use Rattle.groups.specs.Stands.{WideRows, Made, overAfter, StandsOver}
-use Rattle.groups.proofs.Logging.{Logged}
-use Rattle.groups.proofs.Plans.{Quiet}
+use Rattle.groups.specs.Stands.{Made, overAfter, StandsOver}
+use Rattle.groups.proofs.Undoing.{Logged}
+use Rattle.groups.proofs.Plans.{calm, Quiet}
 
 pub record Keeps (over : ℕ → Rows) (t : Table) (h : History) (c : Call) (o : Outcome) : Type 0 where
   pub stands : StandsOver (overAfter over t (act (event c (o .answer)))) (o .table) (event c (o .answer) ∷ h)
@@ -21,58 +24,50 @@ pub record Keeps (over : ℕ → Rows) (t : Table) (h : History) (c : Call) (o :
 
 -- ---- acts that take, undo and close nothing
 
+by-quiet : (P : Act → Type 0) → P idle → ((d : Deed) → P (moves d)) → (a : Act) → Quiet a → P a
+by-quiet P p f idle q = p
+by-quiet P p f (moves d) q = f d
+by-quiet P p f (takes token) q = absurd q
+by-quiet P p f (undoes token) q = absurd q
+by-quiet P p f (closes token) q = absurd q
+
 pub quiet-noted : (a : Act) (g : Track) → Quiet a → noted g a ≡ record { now = deedOf a ++ g .now; saved = g .saved }
-quiet-noted idle g q = refl
-quiet-noted (moves d) g q = refl
-quiet-noted (takes token) g q = absurd q
-quiet-noted (undoes token) g q = absurd q
-quiet-noted (closes token) g q = absurd q
-
-quiet-newer : (a : Act) (t : ℕ) → Quiet a → newer t a ≡ t
-quiet-newer idle t q = refl
-quiet-newer (moves d) t q = refl
-quiet-newer (takes token) t q = absurd q
-quiet-newer (undoes token) t q = absurd q
-quiet-newer (closes token) t q = absurd q
-
-quiet-follows : (a : Act) (t : ℕ) (xs : List Saved) → Quiet a → Follows t xs a
-quiet-follows idle t xs q = tt
-quiet-follows (moves d) t xs q = tt
-quiet-follows (takes token) t xs q = absurd q
-quiet-follows (undoes token) t xs q = absurd q
-quiet-follows (closes token) t xs q = absurd q
-
-quiet-over : (a : Act) (over : ℕ → Rows) (t : Table) → Quiet a → overAfter over t a ≡ over
-quiet-over idle over t q = refl
-quiet-over (moves d) over t q = refl
-quiet-over (takes token) over t q = absurd q
-quiet-over (undoes token) over t q = absurd q
-quiet-over (closes token) over t q = absurd q
+quiet-noted a g = by-quiet (λ a. noted g a ≡ record { now = deedOf a ++ g .now; saved = g .saved }) refl (λ d. refl) a
 
 module _ {over : ℕ → Rows} {t : Table} {h : History} (S : StandsOver over t h) where
-  -- The table with other rows, log, count and used log, and the same snapshots.
+  -- The table with other rows, log and head, after a call that takes no snapshot.
+  pub stands-with : (e : Event) (now : List Deed) (xs : List Saved) (rs : Rows) (l : Log) (count used opened : ℕ)
+      → noted (track h) (act e) ≡ record { now = now; saved = xs } → overAfter over t (act e) ≡ over
+      → Follows (lastToken h) (track h .saved) (act e) → newer (lastToken h) (act e) ≡ lastToken h → opened ≡ length xs
+      → length xs ≤ MAX-OPEN → WideRows rs (S .room) → count ≤ S .room
+      → Logged (S .room) (markAt (t .state)) over (S .log-room) l used count rs xs → Made rs count now
+      → StandsOver (overAfter over t (act e)) (table rs l (withHead (t .state) (head count used opened))) (e ∷ h)
+  unfolding track lastToken Orderly
+  stands-with e now xs rs l count used opened n o f last q fits w c L M = record {
+    room = S .room;
+    log-room = S .log-room;
+    lends = record { row-parts = w; log-parts = L .wide; row-limit = S .lends .row-limit; log-limit = S .lends .log-limit };
+    fits = c;
+    log-fits = L .fits;
+    marks-kept = S .marks-kept;
+    open-fits = rw n fits;
+    opened = rw n q;
+    made = rw n M;
+    back = rw (n, o) (L .back);
+    orderly = (f, S .orderly);
+    serials = rw last (S .serials);
+  }
+
+  -- And leaves the open ones.
   pub stands-on : (e : Event) (rs : Rows) (l : Log) (count used : ℕ) → Quiet (act e) → WideRows rs (S .room) → count ≤ S .room
       → Logged (S .room) (markAt (t .state)) over (S .log-room) l used count rs (track h .saved)
       → Made rs count (deedOf (act e) ++ track h .now)
-      → StandsOver (overAfter over t (act e)) (table rs l (counting (t .state) count used (t .state .«open»))) (e ∷ h)
-  unfolding track lastToken Orderly
-  stands-on e rs l count used q w f L M =
-      let n : noted (track h) (act e) ≡ record { now = deedOf (act e) ++ track h .now; saved = track h .saved } =
-      quiet-noted (act e) (track h) q in
-      record {
-        room = S .room;
-        log-room = S .log-room;
-        lends = record { row-parts = w; log-parts = L .wide; row-limit = S .lends .row-limit; log-limit = S .lends .log-limit };
-        fits = f;
-        log-fits = L .fits;
-        marks-kept = S .marks-kept;
-        open-fits = rw n (S .open-fits);
-        opened = rw n (S .opened);
-        made = rw n M;
-        back = rw (n, quiet-over (act e) over t q) (L .back);
-        orderly = (quiet-follows (act e) (lastToken h) (track h .saved) q, S .orderly);
-        serials = rw (quiet-newer (act e) (lastToken h) q) (S .serials);
-      }
+      → StandsOver (overAfter over t (act e)) (table rs l (withHead (t .state) (head count used (t .state .«open»)))) (e ∷ h)
+  stands-on e rs l count used q =
+      stands-with e (deedOf (act e) ++ track h .now) (track h .saved) rs l count used (t .state .«open») (quiet-noted (act e) (track h) q)
+      (by-quiet (λ a. overAfter over t a ≡ over) refl (λ d. refl) (act e) q)
+      (by-quiet (Follows (lastToken h) (track h .saved)) tt (λ d. tt) (act e) q)
+      (by-quiet (λ a. newer (lastToken h) a ≡ lastToken h) refl (λ d. refl) (act e) q) (S .opened) (S .open-fits)
 
   pub as-logged : Logged (S .room) (markAt (t .state)) over (S .log-room) (t .log) (t .state .used) (t .state .count) (t .rows) (track h .saved)
   as-logged = record { wide = S .lends .log-parts; fits = S .log-fits; back = S .back }
@@ -86,5 +81,6 @@ module _ {over : ℕ → Rows} {t : Table} {h : History} (S : StandsOver over t 
     peace = z;
   }
 
-  pub keeps-refused : (c : Call) (n : ℕ) → eqb n DONE ≡ false → Calm n → Keeps over t h c (refused n t)
-  keeps-refused c n e z = keeps-idle c (refusal n) (rw e) z
+  pub keeps-refused : (c : Call) (n : ℕ) → eqb n DONE ≡ false → eqb n BROKEN-TABLE ≡ false → eqb n BAD-STATE ≡ false
+      → Keeps over t h c (refused n t)
+  keeps-refused c n e f g = keeps-idle c (refusal n) (rw e) (calm n f g)

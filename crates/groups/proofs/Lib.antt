@@ -1,13 +1,10 @@
 -- Why a table stands for its history.
 pub mod Tools
 pub mod SumLaws
-pub mod MergeLaws
-pub mod RowLaws
 pub mod Whole
 pub mod Forest
 pub mod Walks
 pub mod Undoing
-pub mod Logging
 pub mod Plans
 pub mod Kept
 pub mod RowCalls

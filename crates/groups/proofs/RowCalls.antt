@@ -12,23 +12,25 @@ use Rattle.rules.specs.declared.call.Call.{Call}
 use Rattle.rules.specs.declared.call.Call.the-variants.{New}
 use Rattle.rules.specs.declared.table.Value.{Value}
 use Rattle.rules.specs.declared.table.UndoLog.the-variants.{NewElem}
-use Rattle.rules.specs.Lent.{Rows, Table, value, ownerOf, row, putRow, markAt}
-use Rattle.rules.specs.Answer.{answer, found, opened}
+use Rattle.rules.specs.Lent.{Rows, Table, entries, value, ownerOf, row, putRow, markAt}
+use Rattle.rules.specs.Wide.{WideRows}
+use Rattle.rules.specs.Answer.{found}
 use Rattle.rules.specs.Write.{memoryOf, logged, full, puts, writes}
 use Rattle.rules.specs.Plan.{Plan, Walked, walk, walkBoth}
 use Rattle.rules.specs.Tokens.{undoable}
 use Rattle.rules.specs.Refusal.{refused, carry}
 use Rattle.rules.specs.Step.{new, live, one, two}
-use Rattle.groups.specs.Groups.{Groups, created, step as groupStep, replay}
+use Rattle.rules.proofs.RowLaws.{puts-rows}
+use Rattle.rules.proofs.EntryLaws.{new-back}
+use Rattle.rules.proofs.ReadLaws.{Real, real-owner, row-miss, wide-put}
+use Rattle.groups.specs.Groups.{Groups, created, groupStep, replay}
 use Rattle.groups.specs.Track.{event, History, track}
-use Rattle.groups.specs.Stands.{WideRows, Made, StandsOver, Shows}
+use Rattle.groups.specs.Stands.{Made, StandsOver, Shows}
 use Rattle.groups.proofs.Tools.{onCond, cases}
-use Rattle.groups.proofs.RowLaws.{Real, real-owner, wide-put, alike-past}
 use Rattle.groups.proofs.Whole.{whole}
 use Rattle.groups.proofs.Forest.{created-shows}
 use Rattle.groups.proofs.Walks.{Holds, wrote}
-use Rattle.groups.proofs.Undoing.{back-alike}
-use Rattle.groups.proofs.Logging.{log-one, log-puts, puts-rows}
+use Rattle.groups.proofs.Undoing.{back-alike, log-one, log-puts}
 use Rattle.groups.proofs.Plans.{calm, Planned}
 use Rattle.groups.proofs.Kept.{Keeps, stands-on, as-logged, keeps-refused}
 
@@ -47,13 +49,13 @@ module _ {over : ℕ → Rows} {t : Table} {h : History} (S : StandsOver over t 
   -- There is room in the log, or nothing is logged.
   free : (n : ℕ) → full (memoryOf t) n ≡ false → t .state .«open» ≢ 0 → t .state .used + n ≤ S .log-room
   free n e b =
-      let q : ltb (length (t .log .kinds) - t .state .used) n ≡ false = rw (ne-eqb (t .state .«open») 0 b) at e in
-      omega (arith, ltb-false (length (t .log .kinds) - t .state .used) n q, S .lends .log-parts .0, S .log-fits)
+      let q : ltb (entries (t .log) - t .state .used) n ≡ false = rw (ne-eqb (t .state .«open») 0 b) at e in
+      omega (arith, ltb-false (entries (t .log) - t .state .used) n q, S .lends .log-parts, S .log-fits)
 
   keeps-carry : (c : Call) (p : Plan) → Planned (t .rows) (S .room) (track h .now) c p → Keeps over t h c (carry t p)
   keeps-carry c p P =
-      onCond (Keeps over t h c) (full (memoryOf t) (length (p .todo))) (λ _. keeps-refused S c 3 refl (calm 3 refl refl)) (λ e.
-      let r : puts (memoryOf t) (p .todo) .rows ≡ writes (t .rows) (p .todo) = puts-rows (p .todo) (memoryOf t) in
+      onCond (Keeps over t h c) (full (memoryOf t) (length (p .todo))) (λ _. keeps-refused S c 3 refl refl refl) (λ e.
+      let r : puts (memoryOf t) (p .todo) .rows ≡ writes (t .rows) (p .todo) = puts-rows (memoryOf t) (p .todo) in
       record {
         stands =
             stands-on S (event c (p .answer)) (puts (memoryOf t) (p .todo) .rows) (puts (memoryOf t) (p .todo) .log) (t .state .count)
@@ -69,7 +71,7 @@ module _ {over : ℕ → Rows} {t : Table} {h : History} (S : StandsOver over t 
   pub keeps-live : (c : Call) (key : ℕ) (p : Plan)
       → (key < replay (track h .now) .count → Planned (t .rows) (S .room) (track h .now) c p) → Keeps over t h c (live t key p)
   keeps-live c key p f =
-      onCond (Keeps over t h c) (leb (t .state .count) key) (λ _. keeps-refused S c 1 refl (calm 1 refl refl))
+      onCond (Keeps over t h c) (leb (t .state .count) key) (λ _. keeps-refused S c 1 refl refl refl)
       (λ e. keeps-carry c p (f (omega (arith, leb-false (t .state .count) key e, S .made .counted))))
 
   pub keeps-one : (c : Call) (key : ℕ) (next : Walked → Plan)
@@ -84,7 +86,7 @@ module _ {over : ℕ → Rows} {t : Table} {h : History} (S : StandsOver over t 
       → Keeps over t h c (two t a b next)
   keeps-two c a b next f =
       let n : ℕ = t .state .count in
-      let no : Keeps over t h c (refused 1 t) = keeps-refused S c 1 refl (calm 1 refl refl) in
+      let no : Keeps over t h c (refused 1 t) = keeps-refused S c 1 refl refl refl in
       cases (leb n a) (λ e. rw e no) (λ e. cases (leb n b) (λ e′. rw (e, e′) no) (λ e′. rw (e, e′)
       (keeps-carry c (walkBoth (t .rows) n a b next)
       (subst (λ (m : ℕ). Planned (t .rows) (S .room) (track h .now) c (walkBoth (t .rows) m a b next)) (S .made .counted)
@@ -112,17 +114,17 @@ module _ {over : ℕ → Rows} {t : Table} {h : History} (S : StandsOver over t 
       let n : ℕ = t .state .count in
       let v : Value = value (ownerOf owner) amount in
       let rs : Rows = putRow (t .rows) n (row n 0 v) in
-      let w : WideRows rs (S .room) = wide-put (t .rows) (S .room) n (row n 0 v) (S .lends .row-parts) in
-      onCond (Keeps over t h c) (eqb n (length (t .rows .parents))) (λ _. keeps-refused S c 2 refl (calm 2 refl refl)) (λ e.
-      let f : n < S .room = omega (arith, eqb-false n (length (t .rows .parents)) e, S .lends .row-parts .0, S .fits) in
-      onCond (Keeps over t h c) (full (memoryOf t) 1) (λ _. keeps-refused S c 3 refl (calm 3 refl refl)) (λ e′.
+      let w : WideRows rs (S .room) = wide-put (t .rows) n (row n 0 v) (S .room) (S .lends .row-parts) in
+      onCond (Keeps over t h c) (eqb n (length (t .rows .parents))) (λ _. keeps-refused S c 2 refl refl refl) (λ e.
+      let f : n < S .room = omega (arith, eqb-false n (length (t .rows .parents)) e, S .lends .row-parts .parents, S .fits) in
+      onCond (Keeps over t h c) (full (memoryOf t) 1) (λ _. keeps-refused S c 3 refl refl refl) (λ e′.
       record {
         stands =
             stands-on S (event c (found n 0)) rs (logged (NewElem n) (memoryOf t) .log) (n + 1) (logged (NewElem n) (memoryOf t) .used)
             tt w (omega arith)
             (log-one (S .room) (markAt (t .state)) over (S .log-room) (memoryOf t) n (n + 1) rs rs (track h .saved) (NewElem n)
             (S .opened) (free 1 e′)
-            tt refl
+            (new-back (t .log) (t .state .used) n) refl
             (λ keys es p. rw (eq-eqb (n + 1) (n + 1) refl) p)
             (record {
               wide = S .lends .log-parts;
@@ -130,7 +132,7 @@ module _ {over : ℕ → Rows} {t : Table} {h : History} (S : StandsOver over t 
               back =
                   back-alike (S .room) (t .log) (markAt (t .state)) over (t .state .used) n (t .rows) rs (track h .saved) (S .fits)
                   (S .lends .row-parts) w
-                  (alike-past n (t .rows) n (row n 0 v) (λ j q z. omega arith)) (S .back);
+                  (λ j q. sym (row-miss (t .rows) n (row n 0 v) j (λ z. omega arith))) (S .back);
             }))
             (grown-made v n (S .made .counted) f (real-owner owner));
         peace = calm 0 refl refl;

@@ -9,7 +9,7 @@ use Rattle.rules.specs.Walk.{to, path}
 use Rattle.rules.specs.Step.{step}
 use Rattle.groups.specs.Sums.{Credits, total, ones, size}
 use Rattle.groups.specs.Groups.{Groups, replay}
-use Rattle.groups.specs.Shown.{walkOf, endOf, stepsOf, groupsOf, Same}
+use Rattle.groups.specs.Shown.{walkIn, endOf, stepsIn, groupsOf, Same}
 use Rattle.groups.specs.Track.{History, event, act, deedOf, Track, track}
 use Rattle.groups.specs.Stands.{overAfter, Stands}
 use Rattle.groups.proofs.SumLaws.{Below, below-ones, total-agree}
@@ -21,7 +21,7 @@ use Rattle.groups.proofs.RowCalls.{holds}
 use Rattle.groups.proofs.Calls.{keeps}
 
 module _ (t : Table) {g : Groups} {room : ℕ} (H : Holds (t .rows) g room) (counted : g .count ≡ t .state .count) where
-  pub walk-reaches : (key : ℕ) (h : key < g .count) → walkOf t key ≡ to (g .root key) (reaches H key h .passed)
+  pub walk-reaches : (key : ℕ) (h : key < g .count) → walkIn t key ≡ to (g .root key) (reaches H key h .passed)
   walk-reaches key h =
       subst (λ (n : ℕ). path (t .rows .parents) n MAX-REDIRECTS key ≡ to (g .root key) (reaches H key h .passed)) counted
       (reaches H key h .ends)
@@ -35,7 +35,7 @@ module _ (t : Table) {g : Groups} {room : ℕ} (H : Holds (t .rows) g room) (cou
   }
 
   -- Two to the power of its steps is at most the number of keys in the key's group.
-  pub steps-bound : (key : ℕ) → key < g .count → 2 ^ stepsOf t key ≤ size (g .root) (g .count) (g .root key)
+  pub steps-bound : (key : ℕ) → key < g .count → 2 ^ stepsIn t key ≤ size (g .root) (g .count) (g .root key)
   steps-bound key h = rw (walk-reaches key h) (log2-bound H key h)
 
 -- Sums over the same groups are the same.

@@ -1,5 +1,5 @@
 -- Sums over a group: what a join of two groups does to them, and what they cannot exceed.
-use mathlib.Core.Path.{_≡_, refl, sym, ap, ap₂, _∙_}
+use mathlib.Core.Path.{_≡_, refl, sym, ap, ap₂}
 use mathlib.Core.Logic.{_≢_}
 use mathlib.Core.Bool.{cond}
 use mathlib.Core.List.{[], _∷_}
@@ -38,27 +38,8 @@ module _ (root : ℕ → ℕ) (r s : ℕ) (d : r ≢ s) where
   due-shift : (key v : ℕ) → due (shift root r s) s key v ≡ due root r key v + due root s key v
   due-shift key v =
       bySame (root key) r
-      (λ e. omega (
-        arith,
-        due-hit (shift root r s) s key v (shift-hit root r s key e),
-        due-hit root r key v e,
-        due-miss root s key v
-            (λ q. d (sym e ∙ q)),
-      ))
-      (λ e. bySame (root key) s
-      (λ q. omega (
-        arith,
-        due-hit (shift root r s) s key v (shift-miss root r s key e ∙ q),
-        due-miss root r key v e,
-        due-hit root s key
-            v q,
-      ))
-      (λ q. omega (
-        arith,
-        due-miss (shift root r s) s key v (λ z. q (sym (shift-miss root r s key e) ∙ z)),
-        due-miss root r key v e,
-        due-miss root s key v q,
-      )))
+      (λ e. rw (e, eq-eqb r r refl, eq-eqb s s refl, ne-eqb r s d) (omega arith))
+      (λ e. rw (ne-eqb (root key) r e) (omega arith))
 
   pub total-shift : (cs : Credits) → total (shift root r s) s cs ≡ total root r cs + total root s cs
   unfolding total
@@ -69,9 +50,8 @@ module _ (root : ℕ → ℕ) (r s q : ℕ) (d : q ≢ r) (d′ : q ≢ s) where
   due-shift-other : (key v : ℕ) → due (shift root r s) q key v ≡ due root q key v
   due-shift-other key v =
       bySame (root key) r
-      (λ e. due-miss (shift root r s) q key v (λ z. d′ (sym z ∙ shift-hit root r s key e)) ∙ sym
-      (due-miss root q key v (λ z. d (sym z ∙ e))))
-      (λ e. ap (λ (x : ℕ). cond (eqb x q) v 0) (shift-miss root r s key e))
+      (λ e. rw (e, eq-eqb r r refl, ne-eqb s q (λ z. d′ (sym z)), ne-eqb r q (λ z. d (sym z))))
+      (λ e. rw (ne-eqb (root key) r e))
 
   pub total-shift-other : (cs : Credits) → total (shift root r s) q cs ≡ total root q cs
   unfolding total

@@ -17,19 +17,20 @@ use Rattle.rules.specs.declared.table.Mark.{Mark}
 use Rattle.rules.specs.declared.table.State.{State}
 use Rattle.rules.specs.declared.table.UndoLog.{UndoLog}
 use Rattle.rules.specs.Numbers.{DONE, MAX-OPEN, MAX-U64}
-use Rattle.rules.specs.Lent.{Table, table, mark, markAt, counting, Rows, rowAt}
-use Rattle.rules.specs.Answer.{refusal, opened}
-use Rattle.rules.specs.Tokens.{marked, innermost, seek, unfit, snapshot, commit, asked, ask, newestFirst, since, undoable, undo, rolledBack}
+use Rattle.rules.specs.Lent.{Table, table, mark, markAt, head, headOf, withHead, Rows, rowAt}
+use Rattle.rules.specs.Wide.{WideRows}
+use Rattle.rules.specs.Answer.{refusal}
+use Rattle.rules.specs.Tokens.{marked, innermost, seek, unfit, stranded, snapshot, committed, commit, asked, ask, newestFirst, since, undoable, undo, rolledBack}
 use Rattle.rules.specs.Refusal.{Outcome}
 use Rattle.rules.specs.Step.{resting, rollback}
 use Rattle.groups.specs.Groups.{Deed, at}
 use Rattle.groups.specs.Track.{Calm, event, History, idle, act, Saved, restored, track, lastToken, Orderly, Event, dropped, noted, newer, Innermost, Follows, undoes}
-use Rattle.groups.specs.Stands.{Made, LeadsBack, Alike, overAfter, StandsOver, WideRows}
+use Rattle.groups.specs.Stands.{Made, LeadsBack, Alike, overAfter, StandsOver}
 use Rattle.groups.proofs.Tools.{onCond, cases}
 use Rattle.groups.proofs.SumLaws.{at-hit, at-miss}
 use Rattle.groups.proofs.Undoing.{undoable-le, wide-undo, made-alike, back-marks, back-alike, back-commit, back-fits}
 use Rattle.groups.proofs.Plans.{calm}
-use Rattle.groups.proofs.Kept.{Keeps, keeps-idle, keeps-refused}
+use Rattle.groups.proofs.Kept.{Keeps, stands-with, keeps-idle, keeps-refused}
 
 -- A rollback answered DONE gives back the very rows below the count that the innermost snapshot was taken over.
 pub record Restores (over : ℕ → Rows) (t : Table) (o : Outcome) : Type 0 where
@@ -72,10 +73,10 @@ module _ {over : ℕ → Rows} {t : Table} {h : History} (S : StandsOver over t 
   keeps-snapshot =
       let s : State = t .state in
       onCond (λ r. Keeps over t h Snapshot (resting t r)) (eqb (s .«open») MAX-OPEN)
-      (λ _. keeps-refused S Snapshot 7 refl (calm 7 refl refl)) (λ e.
+      (λ _. keeps-refused S Snapshot 7 refl refl refl) (λ e.
       let f : length (track h .saved) < MAX-OPEN = omega (arith, eqb-false (s .«open») MAX-OPEN e, S .opened, S .open-fits) in
       onCond (λ r. Keeps over t h Snapshot (resting t r)) (eqb (s .last) MAX-U64)
-      (λ _. keeps-refused S Snapshot 10 refl (calm 10 refl refl)) (λ _.
+      (λ _. keeps-refused S Snapshot 10 refl refl refl) (λ _.
       record {
         stands = record {
           room = S .room;
@@ -116,7 +117,7 @@ module _ {over : ℕ → Rows} {t : Table} {h : History} (S : StandsOver over t 
     inner-is : innermost (t .state) ≡ inner
     inner-is = ap (markAt (t .state)) left-open
 
-    inner-fits : unfit (t .state) inner ≡ false
+    inner-fits : unfit (headOf (t .state)) inner ≡ false
     inner-fits =
         let (p, q) =
         back-fits (S .room) (t .log) (markAt (t .state)) over (t .state .used) (t .state .count) (t .rows) (x ∷ xs) inner-back
@@ -130,40 +131,21 @@ module _ {over : ℕ → Rows} {t : Table} {h : History} (S : StandsOver over t 
         → Follows (lastToken h) (track h .saved) (act e′) → newer (lastToken h) (act e′) ≡ lastToken h → WideRows rs (S .room)
         → count ≤ t .state .count → used ≤ t .state .used
         → Made rs count now → LeadsBack (S .room) (t .log) (markAt (t .state)) over used count rs xs
-        → StandsOver (overAfter over t (act e′)) (table rs (t .log) (counting (t .state) count used (t .state .«open» - 1))) (e′ ∷ h)
-    unfolding track lastToken Orderly
+        → StandsOver (overAfter over t (act e′)) (table rs (t .log) (withHead (t .state) (head count used (t .state .«open» - 1)))) (e′ ∷ h)
     dropped-stands e′ now rs count used n o f last w c u made back =
         let fits : suc (length xs) ≤ MAX-OPEN = rw e at (S .open-fits) in
-        record {
-          room = S .room;
-          log-room = S .log-room;
-          lends =
-              record {
-                row-parts = w;
-                log-parts = S .lends .log-parts;
-                row-limit = S .lends .row-limit;
-                log-limit = S .lends .log-limit;
-              };
-          fits = omega (arith, S .fits);
-          log-fits = omega (arith, S .log-fits);
-          marks-kept = S .marks-kept;
-          open-fits = rw n (omega arith);
-          opened = rw n left-open;
-          made = rw n made;
-          back = rw (n, o) back;
-          orderly = (f, S .orderly);
-          serials = rw last (S .serials);
-        }
+        stands-with S e′ now xs rs (t .log) count used (t .state .«open» - 1) n o f last left-open (omega arith) w (omega (arith, S .fits))
+        (record { wide = S .lends .log-parts; fits = omega (arith, S .log-fits); back = back }) made
 
     innermost-named : (token : ℕ) → inner .serial ≡ token → Innermost token (track h .saved)
     innermost-named token q = rw e (sym (inner-back .token) ∙ q)
 
     undone-stands : (token : ℕ) → inner .serial ≡ token
-        → StandsOver over (table (undo (t .rows) (since (t .log) (t .state) inner)) (t .log) (rolledBack (t .state) inner))
+        → StandsOver over (table (undo (t .rows) (since (t .log) (headOf (t .state)) inner)) (t .log) (withHead (t .state) (rolledBack (headOf (t .state)) inner)))
         (event (Rollback token) (refusal DONE) ∷ h)
     undone-stands token q =
         let b = inner-back in
-        let es : List UndoLog = since (t .log) (t .state) inner in
+        let es : List UndoLog = since (t .log) (headOf (t .state)) inner in
         let taken : Rows = over (length xs) in
         let n : noted (track h) (undoes token) ≡ record { now = x .deeds; saved = xs } =
         ap (λ (ys : List Saved). record { now = restored (track h .now) ys; saved = dropped ys }) e in
@@ -181,7 +163,7 @@ module _ {over : ℕ → Rows} {t : Table} {h : History} (S : StandsOver over t 
         (cases (eqb (inner .serial) token)
         (λ q. rw (q, inner-fits, inner-back .able)
         (record { stands = undone-stands token (eqb-true (inner .serial) token q); peace = calm 0 refl refl }))
-        (λ q. rw q (keeps-refused S (Rollback token) 6 refl (calm 6 refl refl))))
+        (λ q. rw q (keeps-refused S (Rollback token) 6 refl refl refl)))
 
     undone-restores : (token : ℕ) → Restores over t (rollback t token)
     undone-restores token =
@@ -190,21 +172,12 @@ module _ {over : ℕ → Rows} {t : Table} {h : History} (S : StandsOver over t 
         (λ q. rw (q, inner-fits, inner-back .able) (record { rows = λ _. rw left-open (inner-back .very) }))
         (λ q. rw q (record { rows = λ z. absurd (omega arith) })))
 
-    closed-stands : (token : ℕ) → inner .serial ≡ token → (used : ℕ) → used ≤ t .state .used
-        → LeadsBack (S .room) (t .log) (markAt (t .state)) over used (t .state .count) (t .rows) xs
-        → StandsOver over (table (t .rows) (t .log) (counting (t .state) (t .state .count) used (t .state .«open» - 1)))
-        (event (Commit token) (refusal DONE) ∷ h)
-    closed-stands token q used u back =
-        dropped-stands (event (Commit token) (refusal DONE)) (track h .now) (t .rows) (t .state .count) used
-        (ap (λ (ys : List Saved). record { now = track h .now; saved = dropped ys }) e) refl (innermost-named token q) refl
-        (S .lends .row-parts) (le-refl (t .state .count)) u (S .made) back
-
   none-open : track h .saved ≡ [] → t .state .«open» ≡ 0
   none-open e = S .opened ∙ ap length e
 
   pub keeps-rollback : (token : ℕ) (ys : List Saved) → track h .saved ≡ ys → Keeps over t h (Rollback token) (rollback t token)
   keeps-rollback token [] e =
-      rw (eq-eqb (t .state .«open») 0 (none-open e)) (keeps-refused S (Rollback token) 6 refl (calm 6 refl refl))
+      rw (eq-eqb (t .state .«open») 0 (none-open e)) (keeps-refused S (Rollback token) 6 refl refl refl)
   keeps-rollback token (x ∷ xs) e = keeps-undone x xs e token
 
   pub rollback-restores : (token : ℕ) (ys : List Saved) → track h .saved ≡ ys → Restores over t (rollback t token)
@@ -212,37 +185,36 @@ module _ {over : ℕ → Rows} {t : Table} {h : History} (S : StandsOver over t 
   rollback-restores token (x ∷ xs) e = undone-restores x xs e token
 
   -- The only open snapshot, and one of several.
+  closing : (x : Saved) (xs : List Saved) (e : track h .saved ≡ x ∷ xs)
+      → (stranded (headOf (t .state)) (inner x xs e) ≡ false) × (committed (headOf (t .state)) .used ≤ t .state .used)
+      × LeadsBack (S .room) (t .log) (markAt (t .state)) over (committed (headOf (t .state)) .used) (t .state .count) (t .rows) xs
+  closing x [] e =
+      let b = inner-back x [] e in
+      rw (eq-eqb (t .state .«open») 1 (some-open x [] e), le-ltb 0 (inner x [] e .«log_len») (omega (arith, b .outwards)))
+      (refl, zero-le, refl)
+  closing x (y ∷ zs) e =
+      rw (ne-eqb (t .state .«open») 1 (λ z. omega (arith, some-open x (y ∷ zs) e))) (
+        refl,
+        le-refl (t .state .used),
+        back-commit (S .room) (t .log) (markAt (t .state)) over (t .state .used) (t .state .count) (t .rows) x y zs (S .fits)
+            (S .lends .row-parts) (inner-back x (y ∷ zs) e),
+      )
+
   pub keeps-commit : (token : ℕ) (ys : List Saved) → track h .saved ≡ ys
       → Keeps over t h (Commit token) (resting t (commit (t .state) token))
-  keeps-commit token [] e = rw (eq-eqb (t .state .«open») 0 (none-open e)) (keeps-refused S (Commit token) 6 refl (calm 6 refl refl))
-  keeps-commit token (x ∷ []) e =
-      let m : Mark = inner x [] e in
-      let only : t .state .«open» ≡ 1 = some-open x [] e in
-      rw (inner-is x [] e, ne-eqb (t .state .«open») 0 (busy x [] e))
-      (cases (eqb (m .serial) token)
-      (λ q. rw (
-        q,
-        inner-fits x [] e,
-        eq-eqb (t .state .«open») 1 only,
-        le-ltb 0 (m .«log_len»)
-            (omega (arith, inner-back x [] e .outwards)),
-      )
-      (record { stands = closed-stands x [] e token (eqb-true (m .serial) token q) 0 zero-le refl; peace = calm 0 refl refl }))
-      (λ q. rw q (keeps-refused S (Commit token) 6 refl (calm 6 refl refl))))
-  keeps-commit token (x ∷ y ∷ zs) e =
-      let m : Mark = inner x (y ∷ zs) e in
-      let more : t .state .«open» ≢ 1 = λ z. omega (arith, some-open x (y ∷ zs) e) in
-      rw (inner-is x (y ∷ zs) e, ne-eqb (t .state .«open») 0 (busy x (y ∷ zs) e))
-      (cases (eqb (m .serial) token)
-      (λ q. rw (q, inner-fits x (y ∷ zs) e, ne-eqb (t .state .«open») 1 more)
-      (record {
-        stands = closed-stands x (y ∷ zs) e token (eqb-true (m .serial) token q) (t .state .used) (le-refl (t .state .used))
-            (back-commit (S .room) (t .log) (markAt (t .state)) over (t .state .used) (t .state .count) (t .rows) x y zs (S .fits)
-            (S .lends .row-parts)
-            (inner-back x (y ∷ zs) e));
+  keeps-commit token [] e = rw (eq-eqb (t .state .«open») 0 (none-open e)) (keeps-refused S (Commit token) 6 refl refl refl)
+  keeps-commit token (x ∷ xs) e =
+      let (s, u, b) = closing x xs e in
+      rw (inner-is x xs e, ne-eqb (t .state .«open») 0 (busy x xs e))
+      (cases (eqb (inner x xs e .serial) token)
+      (λ q. rw (q, inner-fits x xs e, s) (record {
+        stands = dropped-stands x xs e (event (Commit token) (refusal DONE)) (track h .now) (t .rows) (t .state .count)
+            (committed (headOf (t .state)) .used) (ap (λ (ys : List Saved). record { now = track h .now; saved = dropped ys }) e) refl
+            (innermost-named x xs e token (eqb-true (inner x xs e .serial) token q)) refl (S .lends .row-parts) (le-refl (t .state .count)) u
+            (S .made) b;
         peace = calm 0 refl refl;
       }))
-      (λ q. rw q (keeps-refused S (Commit token) 6 refl (calm 6 refl refl))))
+      (λ q. rw q (keeps-refused S (Commit token) 6 refl refl refl)))
 
   -- ---- questions
 
@@ -250,7 +222,7 @@ module _ {over : ℕ → Rows} {t : Table} {h : History} (S : StandsOver over t 
       → ((m : Mark) → Calm (reply m .no)) → (n : ℕ) → n ≤ length (track h .saved)
       → Keeps over t h c (resting t (asked (t .state) reply (seek (t .state) token n)))
   unfolding seek
-  keeps-asked c token reply i z zero f = keeps-refused S c 11 refl (calm 11 refl refl)
+  keeps-asked c token reply i z zero f = keeps-refused S c 11 refl refl refl
   keeps-asked c token reply i z (suc n) f =
       let m : Mark = markAt (t .state) n in
       let (p, q) =

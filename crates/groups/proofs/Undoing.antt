@@ -1,59 +1,42 @@
--- The undo log: undoing down to a mark gives back the very rows below the count that the mark was taken over.
+-- The undo log: undoing down to a mark gives back the very rows below the count that the mark was taken over, and what is logged
+-- keeps it so.
 use mathlib.Core.Path.{_≡_, refl, sym, ap, _∙_}
 use mathlib.Core.Logic.{_≢_}
 use mathlib.Core.Bool.{true, true≢false, and-eq-true-iff}
 use mathlib.Core.List.{List, [], _∷_, _++_}
-use Prim.Native.Nat.{ℕ, zero, suc, _+_, _-_, _≤_, _<_}
+use Prim.Native.Nat.{ℕ, zero, suc, _+_, _-_, _*_, _≤_, _<_}
 use native.Mathlib.Nat.{le-refl}
 use native.Mathlib.Omega.{arith}
-use lib.ListN.{length, getD, set, length-set}
-use lib.Seq.{getD-set-same, getD-set-other}
+use lib.ListN.{length}
 use lib.Dec.{eqb, ltb}
-use borrow.Author.Tests.{eqb-true, ltb-true}
+use borrow.Author.Tests.{eqb-true, ltb-true, eq-eqb, ne-eqb, lt-ltb}
 use Rattle.rules.specs.declared.table.UndoLog.{UndoLog}
 use Rattle.rules.specs.declared.table.UndoLog.the-variants.{NewElem, SetElem, Unknown}
 use Rattle.rules.specs.declared.table.Mark.{Mark}
-use Rattle.rules.specs.Numbers.{KIND-UNKNOWN}
-use Rattle.rules.specs.Lent.{Rows, Log, kindOf, keyOf, oldOf, putRow, entryAt, putEntry}
+use Rattle.rules.specs.declared.table.Row.{Row}
+use Rattle.rules.specs.Numbers.{ENTRY}
+use Rattle.rules.specs.Lent.{Rows, Log, rowAt, putRow, entryAt, putEntry}
+use Rattle.rules.specs.Wide.{WideRows, WideLog}
+use Rattle.rules.specs.Write.{Write, place, write, Memory, logged, put, puts}
 use Rattle.rules.specs.Tokens.{newestFirst, undoable, reversed, undo}
+use Rattle.rules.proofs.RowLaws.{undone}
+use Rattle.rules.proofs.EntryLaws.{changed-back}
+use Rattle.rules.proofs.ReadLaws.{row-read, row-miss, wide-put, entry-miss, wide-entry}
 use Rattle.groups.specs.Groups.{Deed}
 use Rattle.groups.specs.Track.{Saved}
-use Rattle.groups.specs.Stands.{Made, WideRows, WideLog, Alike, sinceMark, LeadsBack}
+use Rattle.groups.specs.Stands.{Made, Alike, sinceMark, Returns, LeadsBack}
 use Rattle.groups.proofs.Tools.{bySame}
-use Rattle.groups.proofs.RowLaws.{Real, row-hit, row-miss, wide-put, alike-put}
 use Rattle.groups.proofs.Forest.{shows-alike}
+use Rattle.groups.proofs.Walks.{Inside}
 
--- ---- an entry written, and the entries read afterwards
+-- ---- rows that are the same below a count
 
--- The table logs no entry of no known kind, and no owner of number 0.
-abbrev pub Known : UndoLog → Type 0
-Known (NewElem key) = Unit {0}
-Known (SetElem key old) = Real (old .owner)
-Known Unknown = ⊥
-
-module _ (l : Log) (entries u : ℕ) (w : WideLog l entries) (h : u < entries) where
-  kind-hit : (e : UndoLog) → getD (set (l .kinds) u (kindOf e)) u KIND-UNKNOWN ≡ kindOf e
-  kind-hit e = getD-set-same (l .kinds) u (kindOf e) KIND-UNKNOWN (rw (w .0) h)
-
-  key-hit : (key : ℕ) → getD (set (l .keys) u key) u 0 ≡ key
-  key-hit key = getD-set-same (l .keys) u key 0 (rw (w .1) h)
-
-  pub entry-hit : (e : UndoLog) → Known e → entryAt (putEntry l u e) u ≡ e
-  entry-hit (NewElem key) k = rw (kind-hit (NewElem key), key-hit key)
-  entry-hit (SetElem key old) k = rw (kind-hit (SetElem key old), key-hit key, row-hit (l .old) entries u old (w .2) h k)
-  entry-hit Unknown k = absurd k
-
-pub entry-miss : (l : Log) (u j : ℕ) (e : UndoLog) → j ≢ u → entryAt (putEntry l u e) j ≡ entryAt l j
-entry-miss l u j e d =
-    rw (
-      getD-set-other (l .kinds) u j (kindOf e) KIND-UNKNOWN d,
-      getD-set-other (l .keys) u j (keyOf e) 0 d,
-      row-miss (l .old) u j (oldOf e) d,
-    )
-
-pub wide-entry : (l : Log) (entries u : ℕ) (e : UndoLog) → WideLog l entries → WideLog (putEntry l u e) entries
-wide-entry l entries u e w =
-    (length-set (l .kinds) u (kindOf e) ∙ w .0, length-set (l .keys) u (keyOf e) ∙ w .1, wide-put (l .old) entries u (oldOf e) (w .2))
+alike-put : (n room : ℕ) (rs rs′ : Rows) (i : ℕ) (r : Row) → WideRows rs room → WideRows rs′ room → i < room → Alike n rs rs′
+    → Alike n (putRow rs i r) (putRow rs′ i r)
+alike-put n room rs rs′ i r w w′ h a j q =
+    bySame j i
+    (λ e. rw e (row-read rs i r room w h ∙ sym (row-read rs′ i r room w′ h)))
+    (λ d. row-miss rs i r j d ∙ a j q ∙ sym (row-miss rs′ i r j d))
 
 -- ---- entries undone
 
@@ -84,7 +67,7 @@ undoable-le keys count (Unknown ∷ es) p = absurd (true≢false (sym p))
 
 wide-reversed : (rs : Rows) (room : ℕ) (e : UndoLog) → WideRows rs room → WideRows (reversed rs e) room
 wide-reversed rs room (NewElem key) w = w
-wide-reversed rs room (SetElem key old) w = wide-put rs room key old w
+wide-reversed rs room (SetElem key old) w = wide-put rs key old room w
 wide-reversed rs room Unknown w = w
 
 pub wide-undo : (rs : Rows) (room : ℕ) (es : List UndoLog) → WideRows rs room → WideRows (undo rs es) room
@@ -106,7 +89,7 @@ undo-alike room keys count (SetElem key old ∷ es) rs rs′ f w w′ p a =
     let (b, c) = and-eq-true-iff (ltb key count) (undoable keys count es) .0 p in
     let q : key < count = ltb-true key count b in
     undo-alike room keys count es (putRow rs key old) (putRow rs′ key old) f
-    (wide-put rs room key old w) (wide-put rs′ room key old w′) c
+    (wide-put rs key old room w) (wide-put rs′ key old room w′) c
     (alike-put count room rs rs′ key old w w′ (omega arith) a)
 undo-alike room keys count (Unknown ∷ es) rs rs′ f w w′ p a = absurd (true≢false (sym p))
 
@@ -143,6 +126,13 @@ pub made-alike : {rs : Rows} (rs′ : Rows) {count : ℕ} {ds : List Deed} → A
 made-alike {rs} rs′ {count} {ds} a M =
     record { accepted = M .accepted; counted = M .counted; shows = shows-alike (M .shows) rs′ (λ i h. a i (rw (M .counted) at h)) }
 
+-- Back to the same mark, over the same rows, by another way.
+returns-on : {room : ℕ} {m : Mark} {x : Saved} {taken : Rows} {used used′ count count′ : ℕ} {es es′ : List UndoLog} {rs rs′ : Rows} {O O′ : Type 0}
+    → Returns room m x taken used count es rs O → m .«log_len» ≤ used′ → undoable (m .keys) count′ es′ ≡ true
+    → Alike (m .keys) (undo rs′ es′) taken → O′ → Returns room m x taken used′ count′ es′ rs′ O′
+returns-on b past able very outwards =
+    record { token = b .token; past = past; able = able; very = very; wide = b .wide; made = b .made; outwards = outwards }
+
 module _ (room : ℕ) where
   -- In a log that is the same up to its used length.
   pub back-log : (l l′ : Log) (marks : ℕ → Mark) (over : ℕ → Rows) (used count : ℕ) (rs : Rows) (xs : List Saved)
@@ -152,15 +142,8 @@ module _ (room : ℕ) where
   back-log l l′ marks over used count rs (x ∷ xs) same b =
       let m : Mark = marks (length xs) in
       let p : m .«log_len» ≤ used = b .past in
-      rw (newest-same l l′ (m .«log_len») (used - m .«log_len») used (omega arith) same) (record {
-        token = b .token;
-        past = p;
-        able = b .able;
-        very = b .very;
-        wide = b .wide;
-        made = b .made;
-        outwards = back-log l l′ marks over (m .«log_len») (m .keys) (over (length xs)) xs (λ j h. same j (omega arith)) (b .outwards);
-      })
+      rw (newest-same l l′ (m .«log_len») (used - m .«log_len») used (omega arith) same) (returns-on b p (b .able) (b .very)
+      (back-log l l′ marks over (m .«log_len») (m .keys) (over (length xs)) xs (λ j h. same j (omega arith)) (b .outwards)))
 
   -- Under marks, and over rows, that are the same for the snapshots that are open.
   pub back-marks : (l : Log) (marks marks′ : ℕ → Mark) (over over′ : ℕ → Rows) (used count : ℕ) (rs : Rows) (xs : List Saved)
@@ -170,17 +153,8 @@ module _ (room : ℕ) where
   back-marks l marks marks′ over over′ used count rs (x ∷ xs) same b =
       let m : Mark = marks (length xs) in
       let (s, s′) = same (length xs) (le-refl (suc (length xs))) in
-      rw (s, s′) (record {
-        token = b .token;
-        past = b .past;
-        able = b .able;
-        very = b .very;
-        wide = b .wide;
-        made = b .made;
-        outwards =
-            back-marks l marks marks′ over over′ (m .«log_len») (m .keys) (over (length xs)) xs (λ k h. same k (omega arith))
-            (b .outwards);
-      })
+      rw (s, s′) (returns-on b (b .past) (b .able) (b .very)
+      (back-marks l marks marks′ over over′ (m .«log_len») (m .keys) (over (length xs)) xs (λ k h. same k (omega arith)) (b .outwards)))
 
   -- From rows that are the same below the count.
   pub back-alike : (l : Log) (marks : ℕ → Mark) (over : ℕ → Rows) (used count : ℕ) (rs rs′ : Rows) (xs : List Saved) → count ≤ room
@@ -190,15 +164,8 @@ module _ (room : ℕ) where
   back-alike l marks over used count rs rs′ (x ∷ xs) f w w′ a b =
       let m : Mark = marks (length xs) in
       let es : List UndoLog = sinceMark l m used in
-      record {
-        token = b .token;
-        past = b .past;
-        able = b .able;
-        very = λ i h. sym (undo-alike room (m .keys) count es rs rs′ f w w′ (b .able) a i h) ∙ b .very i h;
-        wide = b .wide;
-        made = b .made;
-        outwards = b .outwards;
-      }
+      returns-on b (b .past) (b .able) (λ i h. sym (undo-alike room (m .keys) count es rs rs′ f w w′ (b .able) a i h) ∙ b .very i h)
+      (b .outwards)
 
   -- With one entry more, whose undoing gives back what it was before.
   pub back-entry : (l l′ : Log) (marks : ℕ → Mark) (over : ℕ → Rows) (used used′ count count′ : ℕ) (rs rs′ : Rows) (x : Saved) (xs : List Saved)
@@ -213,15 +180,8 @@ module _ (room : ℕ) where
       let q : sinceMark l′ m used′ ≡ e ∷ es =
       newest-more l l′ (m .«log_len») used used′ e u p same hit in
       let r : undo rs′ (e ∷ es) ≡ undo rs es = ap (λ (z : Rows). undo z es) un in
-      rw q (record {
-        token = b .token;
-        past = omega arith;
-        able = able (m .keys) es (b .able);
-        very = rw r (b .very);
-        wide = b .wide;
-        made = b .made;
-        outwards = back-log l l′ marks over (m .«log_len») (m .keys) (over (length xs)) xs (λ j h. same j (omega arith)) (b .outwards);
-      })
+      rw q (returns-on b (omega arith) (able (m .keys) es (b .able)) (rw r (b .very))
+      (back-log l l′ marks over (m .«log_len») (m .keys) (over (length xs)) xs (λ j h. same j (omega arith)) (b .outwards)))
 
   -- The innermost mark but one leads back over the entries of both.
   pub back-commit : (l : Log) (marks : ℕ → Mark) (over : ℕ → Rows) (used count : ℕ) (rs : Rows) (x y : Saved) (zs : List Saved)
@@ -240,17 +200,10 @@ module _ (room : ℕ) where
       newest-split l (m′ .«log_len») (m .«log_len» - m′ .«log_len») (used - m .«log_len») (used - m′ .«log_len») (omega arith)
       ∙ ap (λ (n : ℕ). newestFirst l n (used - m .«log_len») ++ old) z in
       let fits : m .keys ≤ room = omega (arith, undoable-le (m .keys) count young (b .able)) in
-      rw q (record {
-        token = b′ .token;
-        past = omega arith;
-        able = undoable-append (m′ .keys) (m .keys) count young old (b .able) (b′ .able);
-        very = rw (undo-append rs young old) (λ i h.
-            undo-alike room (m′ .keys) (m .keys) old (undo rs young) (over (length (y ∷ zs))) fits (wide-undo rs room young w) (b .wide)
-            (b′ .able) (b .very) i h ∙ b′ .very i h);
-        wide = b′ .wide;
-        made = b′ .made;
-        outwards = b′ .outwards;
-      })
+      rw q (returns-on b′ (omega arith) (undoable-append (m′ .keys) (m .keys) count young old (b .able) (b′ .able))
+      (rw (undo-append rs young old) (λ i h.
+      undo-alike room (m′ .keys) (m .keys) old (undo rs young) (over (length (y ∷ zs))) fits (wide-undo rs room young w) (b .wide) (b′ .able) (b .very)
+      i h ∙ b′ .very i h)) (b′ .outwards))
 
   -- No open mark is past the used log or the count.
   pub back-fits : (l : Log) (marks : ℕ → Mark) (over : ℕ → Rows) (used count : ℕ) (rs : Rows) (xs : List Saved)
@@ -265,3 +218,56 @@ module _ (room : ℕ) where
       (λ e. rw e (p, below))
       (λ d. let (q, q′) = back-fits l marks over (m .«log_len») (m .keys) (over (length xs)) xs (b .outwards) k
       (omega arith) in (omega arith, omega arith))
+
+-- ---- what is logged leads back over what is written
+
+-- A log of `entries` that leads back from these rows.
+pub record Logged (room : ℕ) (marks : ℕ → Mark) (over : ℕ → Rows) (entries : ℕ) (l : Log) (used count : ℕ) (rs : Rows)
+    (xs : List Saved) : Type 0 where
+  pub wide : WideLog l entries
+  pub fits : used ≤ entries
+  pub back : LeadsBack room l marks over used count rs xs
+
+module _ (room : ℕ) (marks : ℕ → Mark) (over : ℕ → Rows) (entries : ℕ) where
+  -- One entry is logged, if a snapshot is open.
+  pub log-one : (m : Memory) (count count′ : ℕ) (rs rs′ : Rows) (xs : List Saved) (e : UndoLog) → m .opened ≡ length xs
+      → (m .opened ≢ 0 → m .used + 1 ≤ entries)
+      → (m .used * ENTRY + ENTRY ≤ length (m .log) → entryAt (putEntry (m .log) (m .used) e) (m .used) ≡ e)
+      → reversed rs′ e ≡ rs → ((keys : ℕ) (es : List UndoLog) → undoable keys count es ≡ true → undoable keys count′ (e ∷ es) ≡ true)
+      → Logged room marks over entries (m .log) (m .used) count rs xs
+      → Logged room marks over entries (logged e m .log) (logged e m .used) count′ rs′ xs
+  log-one m count count′ rs rs′ [] e o free hit un able L =
+      rw (eq-eqb (m .opened) 0 o) (record { wide = L .wide; fits = L .fits; back = L .back })
+  log-one m count count′ rs rs′ (x ∷ xs) e o free hit un able L =
+      let busy : m .opened ≢ 0 = λ z. omega arith in
+      let left : m .used + 1 ≤ entries = free busy in
+      rw (ne-eqb (m .opened) 0 busy) (record {
+        wide = wide-entry (m .log) (m .used) e entries (L .wide);
+        fits = left;
+        back =
+            back-entry room (m .log) (putEntry (m .log) (m .used) e) marks over (m .used) (m .used + 1) count count′ rs rs′ x xs e refl
+            (λ j h. entry-miss (m .log) (m .used) e j (λ z. omega arith)) (hit (omega (arith, L .wide))) un able (L .back);
+      })
+
+  -- A row is written, its old row logged.
+  log-put : (m : Memory) (count : ℕ) (xs : List Saved) (w : Write) → m .opened ≡ length xs → (m .opened ≢ 0 → m .used + 1 ≤ entries)
+      → place w < count
+      → Logged room marks over entries (m .log) (m .used) count (m .rows) xs
+      → Logged room marks over entries (put m w .log) (put m w .used) count (put m w .rows) xs
+  unfolding undoable
+  log-put m count xs w o free h L =
+      let rs : Rows = m .rows in
+      let i : ℕ = place w in
+      log-one m count count rs (write rs w) xs (SetElem i (rowAt rs i)) o free (λ f. changed-back (m .log) (m .used) i f rs i) (undone rs w)
+      (λ keys es p. rw (lt-ltb i count h) p) L
+
+  pub log-puts : (ws : List Write) (m : Memory) (count : ℕ) (xs : List Saved) → m .opened ≡ length xs
+      → (m .opened ≢ 0 → m .used + length ws ≤ entries) → Inside count ws
+      → Logged room marks over entries (m .log) (m .used) count (m .rows) xs
+      → Logged room marks over entries (puts m ws .log) (puts m ws .used) count (puts m ws .rows) xs
+  unfolding puts
+  log-puts [] m count xs o free i L = L
+  log-puts (w ∷ ws) m count xs o free i L =
+      log-puts ws (put m w) count xs o
+      (λ b. let f : m .used + suc (length ws) ≤ entries = free b in rw (ne-eqb (m .opened) 0 b) (omega arith)) (i .1)
+      (log-put m count xs w o (λ b. let f : m .used + suc (length ws) ≤ entries = free b in omega arith) (i .0) L)

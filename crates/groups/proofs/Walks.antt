@@ -11,14 +11,15 @@ use borrow.Author.Tests.{eq-eqb, ne-eqb, lt-ltb}
 use Rattle.rules.specs.declared.table.Row.{Row}
 use Rattle.rules.specs.Numbers.{MAX-ROWS, MAX-REDIRECTS}
 use Rattle.rules.specs.Lent.{Rows, row, valueOf, rowAt, putRow}
+use Rattle.rules.specs.Wide.{WideRows}
 use Rattle.rules.specs.Walk.{to, from, path}
 use Rattle.rules.specs.Write.{Write, redirect, place, edit, write, writes}
 use Rattle.rules.specs.Plan.{rewrites}
+use Rattle.rules.proofs.ReadLaws.{Real, row-real, row-hit, row-miss, wide-put}
 use Rattle.groups.specs.Sums.{size}
 use Rattle.groups.specs.Groups.{Groups}
-use Rattle.groups.specs.Stands.{up, high, Shows, WideRows}
+use Rattle.groups.specs.Stands.{up, high, Shows}
 use Rattle.groups.proofs.Tools.{bySame}
-use Rattle.groups.proofs.RowLaws.{Real, real-owner, row-hit, row-miss, wide-put}
 use Rattle.groups.proofs.Whole.{Whole, rank-low}
 use Rattle.groups.proofs.Forest.{Wrote, own-root, next-root, is-root, rank-up, leads-next, compressed}
 
@@ -44,18 +45,16 @@ pub record Reaches (rs : Rows) (g : Groups) (left i : ℕ) : Type 0 where
   pub under : Under g (g .root i) passed
   pub climbs : high rs i + length passed ≤ high rs (g .root i)
 
+path-root : (parents : List ℕ) (count left i : ℕ) → i < count → getD parents i 0 ≡ i → path parents count left i ≡ to i []
+unfolding path
+path-root parents count zero i h e = rw (lt-ltb i count h, eq-eqb (getD parents i 0) i e)
+path-root parents count (suc left) i h e = rw (lt-ltb i count h, eq-eqb (getD parents i 0) i e)
+
 module _ {rs : Rows} {g : Groups} (S : Shows rs g) where
   at-root : (left i : ℕ) → i < g .count → up rs i ≡ i → Reaches rs g left i
-  unfolding path
-  at-root zero i h e = record {
+  at-root left i h e = record {
     passed = [];
-    ends = rw (lt-ltb i (g .count) h, eq-eqb (up rs i) i e) (ap (λ (z : ℕ). to z []) (sym (own-root S i h e)));
-    under = tt;
-    climbs = omega (arith, ap (high rs) (own-root S i h e));
-  }
-  at-root (suc left) i h e = record {
-    passed = [];
-    ends = rw (lt-ltb i (g .count) h, eq-eqb (up rs i) i e) (ap (λ (z : ℕ). to z []) (sym (own-root S i h e)));
+    ends = path-root (rs .parents) (g .count) left i h e ∙ ap (λ (z : ℕ). to z []) (sym (own-root S i h e));
     under = tt;
     climbs = omega (arith, ap (high rs) (own-root S i h e));
   }
@@ -114,7 +113,7 @@ writes-append rs [] vs = refl
 writes-append rs (x ∷ ws) vs = writes-append (write rs x) ws vs
 
 pub wrote : (rs : Rows) (room i : ℕ) (r : Row) → WideRows rs room → i < room → Real (r .owner) → Wrote rs (putRow rs i r) i r
-wrote rs room i r w h real = (row-hit rs room i r w h real, λ j d. row-miss rs i j r d)
+wrote rs room i r w h real = (row-hit rs i r room w h real, row-miss rs i r)
 
 -- ---- a walk's rewrites
 
@@ -126,9 +125,9 @@ module _ {g : Groups} {room : ℕ} (r : ℕ) where
       record {
         shows = subst (λ (z : ℕ). Shows (write rs (redirect x z)) g) e
             (compressed (H .shows) (H .whole) (putRow rs x to-root) x h (λ q. d (sym q ∙ e))
-            (wrote rs room x to-root (H .wide) room-x (real-owner (getD (rs .owners) x 0))));
+            (wrote rs room x to-root (H .wide) room-x (row-real rs x)));
         whole = H .whole;
-        wide = wide-put rs room x (edit (redirect x r) (rowAt rs x)) (H .wide);
+        wide = wide-put rs x (edit (redirect x r) (rowAt rs x)) room (H .wide);
         fits = H .fits;
         limit = H .limit;
       }

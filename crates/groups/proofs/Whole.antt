@@ -16,7 +16,7 @@ use Rattle.rules.specs.declared.table.Merged.the-variants.{Both}
 use Rattle.rules.specs.Merge.{merge}
 use Rattle.rules.specs.Numbers.{MAX-ROWS, MAX-RANK}
 use Rattle.groups.specs.Sums.{total, ones, size}
-use Rattle.groups.specs.Groups.{Groups, noGroups, Deed, created, joined, posted, at, shift, hung, raised, step, replay, Accepts, Accepted}
+use Rattle.groups.specs.Groups.{Groups, noGroups, Deed, created, joined, posted, at, shift, hung, raised, groupStep, replay, Accepts, Accepted}
 use Rattle.groups.proofs.Tools.{cases, bySame, upTo, either}
 use Rattle.groups.proofs.SumLaws.{at-hit, at-miss, shift-hit, shift-miss, due-hit, total-shift, total-shift-other, size-le}
 
@@ -105,8 +105,8 @@ module _ (g : Groups) (W : Whole g) (a b : ℕ) (ha : a < g .count) (hb : b < g 
 -- The roots were the same and nothing moves, or one group is hung under the other.
 pub join-cases : (P : Groups → Type 0) (g : Groups) → Whole g → (a b : ℕ) → Accepts g (joined a b)
     → (g .root a ≡ g .root b → P g) → ((low high k : ℕ) (v : Value) → Hangs g a b low high k v → P (hung g low high k v))
-    → P (step g (joined a b))
-unfolding step
+    → P (groupStep g (joined a b))
+unfolding groupStep
 join-cases P g W a b acc f h =
     let (ha, hb, t) = acc in
     let r : ℕ = g .root a in
@@ -141,21 +141,14 @@ module _ {g : Groups} (W : Whole g) where
             (λ e. ap (shift root low high) (shift-miss root low high i e) ∙ stays i e ∙ sym (shift-miss root low high i e));
         big = λ q h e. either (hung-roots H q e)
             (λ m. subst⁻¹ (λ (z : ℕ). 2 ^ at high k (g .rank) z ≤ size (shift root low high) (g .count) z) m
-            (rw (at-hit high k (g .rank) high refl)
-            (omega (
-              arith,
-              H .ranked .doubles,
-              total-shift root low high d (ones (g .count)),
-              W .big low (H .low-live) el,
-              W .big high
-                  (H .high-live) eh,
-            ))))
+            (rw (at-hit high k (g .rank) high refl, total-shift root low high d (ones (g .count)))
+            (omega (arith, H .ranked .doubles, W .big low (H .low-live) el, W .big high (H .high-live) eh))))
             (λ m. rw (at-miss high k (g .rank) q (m .1), total-shift-other root low high q (m .0) (m .1) (ones (g .count)))
             (W .big q h (m .2)));
       }
 
-  pub step-whole : (d : Deed) → Accepts g d → Whole (step g d)
-  unfolding step total
+  pub step-whole : (d : Deed) → Accepts g d → Whole (groupStep g d)
+  unfolding groupStep total
   step-whole (created key v) e =
       let n : ℕ = g .count in
       let own : g .root n ≡ n = W .outside n (le-refl n) in

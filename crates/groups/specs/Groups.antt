@@ -48,8 +48,8 @@ hung g low high k v =
 abbrev pub raised : ℕ → ℕ → ℕ
 raised other own = cond (ltb other own) own (own + 1)
 
-abbrev pub united : Groups → ℕ → ℕ → Value → Groups
-united g a b v =
+abbrev pub hungByRank : Groups → ℕ → ℕ → Value → Groups
+hungByRank g a b v =
     cond (ltb (g .rank b) (g .rank a)) (hung g b a (g .rank a) v) (hung g a b (raised (g .rank a) (g .rank b)) v)
 
 -- A merge that fails moves nothing.
@@ -62,19 +62,19 @@ ifBoth g move (Both v) = move v
 
 -- "Equal roots: done, values not merged. Else merge a's root with b's." "walk, merge the root's value with the given one, write owner
 -- and amount."
-unfoldable pub step : Groups → Deed → Groups
-step g (created key v) = record { count = suc (g .count); root = g .root; rank = at key 0 (g .rank); value = at key v (g .value) }
-step g (joined a b) =
+unfoldable pub groupStep : Groups → Deed → Groups
+groupStep g (created key v) = record { count = suc (g .count); root = g .root; rank = at key 0 (g .rank); value = at key v (g .value) }
+groupStep g (joined a b) =
     let r = g .root a in
     let s = g .root b in
-    cond (eqb r s) g (ifBoth g (united g r s) (merge (g .value r) (g .value s)))
-step g (posted key v) =
+    cond (eqb r s) g (ifBoth g (hungByRank g r s) (merge (g .value r) (g .value s)))
+groupStep g (posted key v) =
     let r = g .root key in
     ifBoth g (λ w. record { count = g .count; root = g .root; rank = g .rank; value = at r w (g .value) }) (merge (g .value r) v)
 
 unfoldable pub replay : List Deed → Groups
 replay [] = noGroups
-replay (d ∷ ds) = step (replay ds) d
+replay (d ∷ ds) = groupStep (replay ds) d
 
 -- ---- deeds that a table would answer with DONE
 

@@ -9,28 +9,28 @@ use Rattle.groups.specs.Groups.{Groups}
 
 -- ---- the walk from a key
 
-abbrev pub walkOf : Table → ℕ → Path
-walkOf t key = path (t .rows .parents) (t .state .count) MAX-REDIRECTS key
+abbrev pub walkIn : Table → ℕ → Path
+walkIn t key = path (t .rows .parents) (t .state .count) MAX-REDIRECTS key
 
 abbrev pub endOf : Path → ℕ
 endOf broken = 0
 endOf (to root passed) = root
 
-abbrev pub passedBy : Path → List ℕ
-passedBy broken = []
-passedBy (to root passed) = passed
+abbrev pub passedOn : Path → List ℕ
+passedOn broken = []
+passedOn (to root passed) = passed
 
-abbrev pub rootOf : Table → ℕ → ℕ
-rootOf t key = endOf (walkOf t key)
+abbrev pub rootIn : Table → ℕ → ℕ
+rootIn t key = endOf (walkIn t key)
 
-abbrev pub stepsOf : Table → ℕ → ℕ
-stepsOf t key = steps (passedBy (walkOf t key))
+abbrev pub stepsIn : Table → ℕ → ℕ
+stepsIn t key = steps (passedOn (walkIn t key))
 
 -- ---- the groups
 
 abbrev pub groupsOf : Table → Groups
 groupsOf t =
-    record { count = t .state .count; root = rootOf t; rank = λ r. rowAt (t .rows) r .rank; value = λ r. valueOf (rowAt (t .rows) r) }
+    record { count = t .state .count; root = rootIn t; rank = λ r. rowAt (t .rows) r .rank; value = λ r. valueOf (rowAt (t .rows) r) }
 
 -- The same keys, each with the same root, and each root with the same rank and value: "only a root's rank, owner and amount mean
 -- anything".

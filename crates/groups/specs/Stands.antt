@@ -10,6 +10,7 @@ use Rattle.rules.specs.declared.table.UndoLog.{UndoLog}
 use Rattle.rules.specs.declared.table.Mark.{Mark}
 use Rattle.rules.specs.Numbers.{MAX-ROWS, MAX-ENTRIES, MAX-OPEN}
 use Rattle.rules.specs.Lent.{Rows, Log, Table, valueOf, rowAt, markAt}
+use Rattle.rules.specs.Wide.{WideRows, WideLog}
 use Rattle.rules.specs.Tokens.{newestFirst, undoable, undo}
 use Rattle.groups.specs.Groups.{Groups, Deed, at, replay, Accepted}
 use Rattle.groups.specs.Track.{History, Act, idle, moves, takes, undoes, closes, Saved, track, lastToken, Orderly}
@@ -23,15 +24,15 @@ abbrev pub high : Rows → ℕ → ℕ
 high rs i = rowAt rs i .rank
 
 -- Following parents from a key leads to this root.
-pub data Leads (p : ℕ → ℕ) : ℕ → ℕ → Type 0 where
-  here : {i r : ℕ} → p i ≡ i → i ≡ r → Leads p i r
-  along : {i r : ℕ} → Leads p (p i) r → Leads p i r
+pub data LeadsTo (p : ℕ → ℕ) : ℕ → ℕ → Type 0 where
+  here : {i r : ℕ} → p i ≡ i → i ≡ r → LeadsTo p i r
+  along : {i r : ℕ} → LeadsTo p (p i) r → LeadsTo p i r
 
 -- A redirect leads below the count, to a row of greater rank; each key leads to its root; a root's row has its rank and value.
 pub record Shows (rs : Rows) (g : Groups) : Type 0 where
   pub inside : (i : ℕ) → i < g .count → up rs i < g .count
   pub rises : (i : ℕ) → i < g .count → up rs i ≢ i → high rs i < high rs (up rs i)
-  pub leads : (i : ℕ) → i < g .count → Leads (up rs) i (g .root i)
+  pub leads : (i : ℕ) → i < g .count → LeadsTo (up rs) i (g .root i)
   pub ranks : (r : ℕ) → r < g .count → up rs r ≡ r → high rs r ≡ g .rank r
   pub values : (r : ℕ) → r < g .count → up rs r ≡ r → valueOf (rowAt rs r) ≡ g .value r
 
@@ -42,12 +43,6 @@ pub record Made (rs : Rows) (count : ℕ) (ds : List Deed) : Type 0 where
   pub shows : Shows rs (replay ds)
 
 -- ---- what is lent
-
-abbrev pub WideRows : Rows → ℕ → Type 0
-WideRows rs n = (length (rs .parents) ≡ n) × (length (rs .ranks) ≡ n) × (length (rs .owners) ≡ n) × (length (rs .amounts) ≡ n)
-
-abbrev pub WideLog : Log → ℕ → Type 0
-WideLog l n = (length (l .kinds) ≡ n) × (length (l .keys) ≡ n) × WideRows (l .old) n
 
 -- "lent parts of unequal length" and "rows or log above the limits" are BAD_STATE: there is room for so many rows and entries.
 pub record Lends (rs : Rows) (l : Log) (rows entries : ℕ) : Type 0 where

@@ -12,11 +12,11 @@ use Rattle.rules.specs.declared.table.Owner.the-variants.{Nobody, Tenant}
 use Rattle.rules.specs.declared.table.Value.{Value}
 use Rattle.rules.specs.declared.table.Merged.the-variants.{Both}
 use Rattle.rules.specs.Merge.{merge}
+use Rattle.rules.proofs.MergeLaws.{merge-adds, merge-names}
 use Rattle.groups.specs.Sums.{total}
-use Rattle.groups.specs.Groups.{Groups, Deed, created, joined, posted, shift, hung, step, replay, Accepts, Accepted}
+use Rattle.groups.specs.Groups.{Groups, Deed, created, joined, posted, shift, hung, groupStep, replay, Accepts, Accepted}
 use Rattle.groups.proofs.Tools.{cases, bySame, upTo, either}
 use Rattle.groups.proofs.SumLaws.{at-hit, at-miss, due-hit, due-miss, total-shift, total-shift-other, Below, none, more, below-suc, total-none}
-use Rattle.groups.proofs.MergeLaws.{merge-sum}
 use Rattle.groups.proofs.Whole.{Whole, Hangs, hung-roots, join-cases, whole}
 use Rattle.history.specs.Account.{joins, credits, byteSeconds, namedBy, namings, createdKeys, downFrom}
 use Rattle.history.proofs.LinkLaws.{Links, links-same, links-hung, no-links}
@@ -45,12 +45,11 @@ values-one v = record { sum = refl; owned = λ n. naming n (v .owner) }
 values-both : {v w : Value} {p q : ℕ} {f g : ℕ → ℕ} → Values v p f → Values w q g → (x : Value) → merge v w ≡ Both x
     → Values x (p + q) (λ n. f n + g n)
 values-both {v} {w} {p} {q} {f} {g} P Q x e =
-    let S = merge-sum v w x e in
     record {
-      sum = S .adds ∙ ap₂ (λ (a b : ℕ). a + b) (P .sum) (Q .sum);
+      sum = merge-adds v w x e ∙ ap₂ (λ (a b : ℕ). a + b) (P .sum) (Q .sum);
       owned = λ n. (
-        λ z. either (S .names n .0 z) (λ y. omega (arith, P .owned n .0 y)) (λ y. omega (arith, Q .owned n .0 y)),
-        λ z. S .names n .1 (cases (eqb (f n) 0)
+        λ z. either (merge-names v w x e n .0 z) (λ y. omega (arith, P .owned n .0 y)) (λ y. omega (arith, Q .owned n .0 y)),
+        λ z. merge-names v w x e n .1 (cases (eqb (f n) 0)
             (λ y. inr (Q .owned n .1 (omega (arith, eqb-true (f n) 0 y))))
             (λ y. inl (P .owned n .1 (omega (arith, eqb-false (f n) 0 y))))),
       );
@@ -73,8 +72,8 @@ pub record Account (g : Groups) (ds : List Deed) : Type 0 where
 module _ {g : Groups} {ds : List Deed} (W : Whole g) (A : Account g ds) where
   -- ---- a new key
 
-  created-account : (key : ℕ) (v : Value) → key ≡ g .count → Account (step g (created key v)) (created key v ∷ ds)
-  unfolding step total
+  created-account : (key : ℕ) (v : Value) → key ≡ g .count → Account (groupStep g (created key v)) (created key v ∷ ds)
+  unfolding groupStep total
   created-account key v e =
       let n : ℕ = g .count in
       let own : g .root key ≡ key = W .outside key (omega arith) in
@@ -101,8 +100,8 @@ module _ {g : Groups} {ds : List Deed} (W : Whole g) (A : Account g ds) where
 
   -- ---- a post
 
-  posted-account : (key : ℕ) (v : Value) → Accepts g (posted key v) → Account (step g (posted key v)) (posted key v ∷ ds)
-  unfolding step total
+  posted-account : (key : ℕ) (v : Value) → Accepts g (posted key v) → Account (groupStep g (posted key v)) (posted key v ∷ ds)
+  unfolding groupStep total
   posted-account key v acc =
       let (h, (x, e)) = acc in
       let r₀ : ℕ = g .root key in
@@ -152,13 +151,13 @@ module _ {g : Groups} {ds : List Deed} (W : Whole g) (A : Account g ds) where
           below = A .below;
         }
 
-  joined-account : (a b : ℕ) → Accepts g (joined a b) → Account (step g (joined a b)) (joined a b ∷ ds)
+  joined-account : (a b : ℕ) → Accepts g (joined a b) → Account (groupStep g (joined a b)) (joined a b ∷ ds)
   joined-account a b acc =
       join-cases (λ g′. Account g′ (joined a b ∷ ds)) g W a b acc
       (λ e. record { links = links-same (A .links) a b e; values = A .values; keys = A .keys; below = A .below })
       (hung-account a b)
 
-  step-account : (d : Deed) → Accepts g d → Account (step g d) (d ∷ ds)
+  step-account : (d : Deed) → Accepts g d → Account (groupStep g d) (d ∷ ds)
   step-account (created key v) acc = created-account key v acc
   step-account (joined a b) acc = joined-account a b acc
   step-account (posted key v) acc = posted-account key v acc

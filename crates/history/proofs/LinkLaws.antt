@@ -1,5 +1,5 @@
 -- Roots and links: two keys have one root exactly when joins link them.
-use mathlib.Core.Path.{_≡_, refl, sym, ap, _∙_, subst, subst⁻¹}
+use mathlib.Core.Path.{_≡_, refl, sym, ap, _∙_, subst}
 use mathlib.Core.Logic.{_↔_, _⊎_}
 use mathlib.Core.Bool.{cond}
 use mathlib.Core.List.{[], _∷_, List·Memᴰ, List·Memᴰ·head, List·Memᴰ·tail, List·Memᴰ·cases-cons, List·Memᴰ·not-nil}
@@ -55,20 +55,15 @@ module _ {js : Pairs} {root : ℕ → ℕ} (k : Links js root) (a b : ℕ) where
       → Links ((a, b) ∷ js) (shift root low high)
   links-hung low high w = record {
     reach = λ x. bySame (root x) low
-        (λ e. subst⁻¹ (λ (z : ℕ). Linked ((a, b) ∷ js) x z) (shift-hit root low high x e)
-        (chain (subst (λ (z : ℕ). Linked ((a, b) ∷ js) x z) e (weaken (a, b) (k .reach x))) linked))
-        (λ d. subst⁻¹ (λ (z : ℕ). Linked ((a, b) ∷ js) x z) (shift-miss root low high x d) (weaken (a, b) (k .reach x)));
+        (λ e. rw (shift-hit root low high x e) (chain (rw e at (weaken (a, b) (k .reach x))) linked))
+        (λ d. rw (shift-miss root low high x d) (weaken (a, b) (k .reach x)));
     agree = agreeing (shift root low high) (either w
         (λ q. shift-hit root low high a (sym (q .0)) ∙ sym (goes b (sym (q .1))))
         (λ q. goes a (sym (q .1)) ∙ sym (shift-hit root low high b (sym (q .0))))) (λ x y q. ap (λ (z : ℕ). cond (eqb z low) high z) q);
   }
     where
       linked : Linked ((a, b) ∷ js) low high
-      linked = either w
-          (λ q. subst⁻¹ (λ (z : ℕ). Linked ((a, b) ∷ js) z high) (q .0)
-          (subst⁻¹ (λ (z : ℕ). Linked ((a, b) ∷ js) (root a) z) (q .1) roots-linked))
-          (λ q. subst⁻¹ (λ (z : ℕ). Linked ((a, b) ∷ js) z high) (q .0)
-          (subst⁻¹ (λ (z : ℕ). Linked ((a, b) ∷ js) (root b) z) (q .1) (flip roots-linked)))
+      linked = either w (λ q. rw (q .0, q .1) roots-linked) (λ q. rw (q .0, q .1) (flip roots-linked))
 
       -- A key whose root is `high` has it still.
       goes : (x : ℕ) → root x ≡ high → shift root low high x ≡ high

@@ -9,9 +9,10 @@ use native.Mathlib.Omega.{arith}
 use lib.Dec.{eqb}
 use borrow.Author.Tests.{eqb-true, eq-eqb, ne-eqb}
 use Rattle.groups.specs.Groups.{Deed}
-use Rattle.groups.specs.Track.{Event, History, isDone, Act, idle, moves, takes, undoes, closes, act, deedOf, Saved, Track, dropped, restored, noted, track, newer, lastToken, Innermost, Follows, Orderly}
+use Rattle.groups.specs.Track.{Event, History, isDone, Act, idle, moves, takes, undoes, closes, act, deedOf}
+use Rattle.groups.specs.Track.{Saved, Track, dropped, restored, noted, track, newer, lastToken, Innermost, Follows, Orderly}
 use Rattle.groups.proofs.Tools.{cases, either}
-use Rattle.history.specs.Survival.{without, opening, openAfter, undoesIt, undoneIn, anyOf, rolledBack, survivors, deeds, surviving}
+use Rattle.history.specs.Survival.{without, opening, openAfter, undoesIt, undoneIn, anyOf, isRolledBack, survivors, deeds, surviving}
 
 -- ---- the open tokens
 
@@ -186,7 +187,7 @@ survive-later : (h : History) → Orderly h → (later : History) → Due (undon
 unfolding Orderly lastToken track survivors undoneIn
 survive-later [] o later d = refl
 survive-later (e ∷ h) o later d =
-    deeds-on (rolledBack h later) (isDone e) e (survivors (e ∷ later) h) refl
+    deeds-on (isRolledBack h later) (isDone e) e (survivors (e ∷ later) h) refl
     ∙ ap (λ (ts : List ℕ). cond (anyOf (undoneIn later) ts) (deeds (survivors (e ∷ later) h))
     (deedOf (act e) ++ deeds (survivors (e ∷ later) h))) (open-tokens h (o .1))
     ∙ agree-on (act e) (undoneIn later) (lastToken h) (track h) (o .0) (falls h (o .1)) d (deeds (survivors (e ∷ later) h))

@@ -19,10 +19,10 @@ use Rattle.rules.specs.Answer.{found}
 use Rattle.rules.specs.Walk.{Path, broken, to}
 use Rattle.rules.specs.Write.{memoryOf, withMemory, full, puts}
 use Rattle.rules.specs.Plan.{Plan, walkedOn, goOn, findOn}
-use Rattle.rules.specs.Refusal.{Outcome, outcome, refuse, carry, sizesOf, bad}
+use Rattle.rules.specs.Refusal.{Outcome, outcome, refuse, carry, badTable}
 use Rattle.rules.specs.Step.{notLive, live, call, step}
 use Rattle.groups.specs.Groups.{Groups, Deed, replay}
-use Rattle.groups.specs.Shown.{walkOf, endOf, passedBy, rootOf, stepsOf, groupsOf, Same}
+use Rattle.groups.specs.Shown.{walkIn, endOf, passedOn, rootIn, stepsIn, groupsOf, Same}
 use Rattle.groups.specs.Track.{History, event, act}
 use Rattle.groups.specs.Stands.{Made, overAfter, Stands}
 use Rattle.groups.proofs.Walks.{Holds, reaches}
@@ -57,26 +57,26 @@ refuse-done true n t rest e q = absurd (eqb-false n DONE e q)
 refuse-done false n t rest e q = (refl, q)
 
 find-goes : (rs : Rows) (p : Path) → goOn rs findOn p .answer .no ≡ DONE
-    → goOn rs findOn p .answer ≡ found (endOf p) (length (passedBy p))
+    → goOn rs findOn p .answer ≡ found (endOf p) (length (passedOn p))
 find-goes rs broken e = absurd (omega arith)
 find-goes rs (to root passed) e = refl
 
 find-answers : (t : Table) (key : ℕ) → step t (Find key) .answer .no ≡ DONE
-    → step t (Find key) .answer ≡ found (rootOf t key) (stepsOf t key)
+    → step t (Find key) .answer ≡ found (rootIn t key) (stepsIn t key)
 unfolding step call
 find-answers t key e =
-    let p : Plan = goOn (t .rows) findOn (walkOf t key) in
-    let (a, e₁) = refuse-done (bad (sizesOf t) (t .state)) BAD-STATE t (live t key p) refl e in
+    let p : Plan = goOn (t .rows) findOn (walkIn t key) in
+    let (a, e₁) = refuse-done (badTable t) BAD-STATE t (live t key p) refl e in
     let (b, e₂) = refuse-done (notLive t key) NO-KEY t (carry t p) refl e₁ in
     let (c, e₃) =
     refuse-done (full (memoryOf t) (length (p .todo))) LOG-FULL t (outcome (p .answer) (withMemory t (puts (memoryOf t) (p .todo))))
     refl e₂ in
-    a ∙ b ∙ c ∙ find-goes (t .rows) (walkOf t key) e₃
+    a ∙ b ∙ c ∙ find-goes (t .rows) (walkIn t key) e₃
 
 -- ---- any table that stands for a history
 
 -- A walk that ends is the one that ends there.
-ends-there : (p : Path) (r : ℕ) (passed : List ℕ) → p ≡ to r passed → p ≡ to (endOf p) (passedBy p)
+ends-there : (p : Path) (r : ℕ) (passed : List ℕ) → p ≡ to r passed → p ≡ to (endOf p) (passedOn p)
 ends-there p r passed e = rw e
 
 unnamed : (o : Owner) → ((n : ℕ) → o ≢ Tenant n) → o ≡ Nobody
@@ -92,8 +92,8 @@ stands-demand t h S peace =
     let G : Same (groupsOf t) g = groups-after t h S in
     let A : Account g ds = account ds (M .accepted) in
     let live : (key : ℕ) → Live t key → key < g .count = λ key l. rw (M .counted) l in
-    let root : (key : ℕ) → Live t key → rootOf t key ≡ g .root key = λ key l. G .root key (live key l) in
-    let inside : (key : ℕ) → Live t key → Live t (rootOf t key) =
+    let root : (key : ℕ) → Live t key → rootIn t key ≡ g .root key = λ key l. G .root key (live key l) in
+    let inside : (key : ℕ) → Live t key → Live t (rootIn t key) =
     λ key l. rw (root key l, ← M .counted) (H .whole .within key (live key l)) in
     let own : (r : ℕ) → Root t r → g .root r ≡ r = λ r l. sym (root r (l .0)) ∙ l .1 in
     let owns : (r : ℕ) → Root t r → (k : ℕ) → (rowAt (t .rows) r .owner ≡ Tenant k) ↔ (0 < inGroup t r (namings k ds)) = λ r l k.
@@ -104,12 +104,12 @@ stands-demand t h S peace =
     )
     (A .values r (live r (l .0)) (own r l) .owned k) in
     let walked : (a : ℕ) → Live t a → Holds (afterWalk t a .rows) g (S .1 .room) = λ a l.
-    subst⁻¹ (λ (p : Path). Holds (walkedOn (t .rows) (endOf p) (passedBy p) .rows) g (S .1 .room))
+    subst⁻¹ (λ (p : Path). Holds (walkedOn (t .rows) (endOf p) (passedOn p) .rows) g (S .1 .room))
     (walk-reaches t H (M .counted) a (live a l)) (walk-holds H a (live a l)) in
     record {
       ends = λ key l. (
-        ends-there (walkOf t key) (g .root key) (reaches H key (live key l) .passed) (walk-reaches t H (M .counted) key (live key l)),
-        (inside key l, root (rootOf t key) (inside key l) ∙ ap (g .root) (root key l) ∙ H .whole .settled key ∙ sym (root key l)),
+        ends-there (walkIn t key) (g .root key) (reaches H key (live key l) .passed) (walk-reaches t H (M .counted) key (live key l)),
+        (inside key l, root (rootIn t key) (inside key l) ∙ ap (g .root) (root key l) ∙ H .whole .settled key ∙ sym (root key l)),
       );
       finds = find-answers t;
       links = λ a b la lb. rw (root a la, root b lb) (linked-iff (A .links) a b);
@@ -117,9 +117,9 @@ stands-demand t h S peace =
           ∙ sym (same-total G r (byteSeconds ds) (A .below (λ v. v .amount)));
       owners = owns;
       unowned = λ r l f. unnamed (rowAt (t .rows) r .owner) (λ k e. let q = owns r l k .0 e in omega (arith, f k));
-      short = λ key l. rw (same-size G (rootOf t key), root key l) (steps-bound t H (M .counted) key (live key l));
+      short = λ key l. rw (same-size G (rootIn t key), root key l) (steps-bound t H (M .counted) key (live key l));
       short-second =
-          λ a b la lb. rw (same-size G (rootOf t b), root b lb) (steps-bound (afterWalk t a) (walked a la) (M .counted) b (live b lb));
+          λ a b la lb. rw (same-size G (rootIn t b), root b lb) (steps-bound (afterWalk t a) (walked a la) (M .counted) b (live b lb));
       peace = peace;
       keys = A .keys ∙ ap downFrom (M .counted);
     }

@@ -13,7 +13,7 @@ use Rattle.rules.specs.Walk.{to}
 use Rattle.rules.specs.Plan.{walkedOn}
 use Rattle.rules.specs.Step.{step}
 use Rattle.groups.specs.Sums.{Credits, total, size}
-use Rattle.groups.specs.Shown.{walkOf, passedBy, rootOf, stepsOf}
+use Rattle.groups.specs.Shown.{walkIn, passedOn, rootIn, stepsIn}
 use Rattle.groups.specs.Track.{History, event, Calm}
 use Rattle.groups.specs.Stands.{Lends}
 use Rattle.history.specs.Survival.{surviving}
@@ -25,18 +25,18 @@ abbrev pub Live : Table → ℕ → Type 0
 Live t key = key < t .state .count
 
 abbrev pub Root : Table → ℕ → Type 0
-Root t r = Live t r × (rootOf t r ≡ r)
+Root t r = Live t r × (rootIn t r ≡ r)
 
 -- What credits on keys come to in a root's group, and the number of its keys.
 abbrev pub inGroup : Table → ℕ → Credits → ℕ
-inGroup t r cs = total (rootOf t) r cs
+inGroup t r cs = total (rootIn t) r cs
 
 abbrev pub groupSize : Table → ℕ → ℕ
-groupSize t r = size (rootOf t) (t .state .count) r
+groupSize t r = size (rootIn t) (t .state .count) r
 
 -- The table as the walk from a key leaves it.
 abbrev pub afterWalk : Table → ℕ → Table
-afterWalk t key = table (walkedOn (t .rows) (rootOf t key) (passedBy (walkOf t key)) .rows) (t .log) (t .state)
+afterWalk t key = table (walkedOn (t .rows) (rootIn t key) (passedOn (walkIn t key)) .rows) (t .log) (t .state)
 
 -- No call was answered 8, and none 9.
 abbrev pub Peaceful : History → Type 0
@@ -47,10 +47,10 @@ Peaceful (e ∷ h) = Calm (e .answer .no) × Peaceful h
 
 pub record Demand (t : Table) (h : History) : Type 0 where
   -- Each live key's walk ends, at a root; and that is the root that `find` answers, with the walk's steps.
-  pub ends : (key : ℕ) → Live t key → (walkOf t key ≡ to (rootOf t key) (passedBy (walkOf t key))) × Root t (rootOf t key)
-  pub finds : (key : ℕ) → step t (Find key) .answer .no ≡ DONE → step t (Find key) .answer ≡ found (rootOf t key) (stepsOf t key)
+  pub ends : (key : ℕ) → Live t key → (walkIn t key ≡ to (rootIn t key) (passedOn (walkIn t key))) × Root t (rootIn t key)
+  pub finds : (key : ℕ) → step t (Find key) .answer .no ≡ DONE → step t (Find key) .answer ≡ found (rootIn t key) (stepsIn t key)
   -- "two live keys share a root exactly when surviving joins link them"
-  pub links : (a b : ℕ) → Live t a → Live t b → (rootOf t a ≡ rootOf t b) ↔ Linked (joins (surviving h)) a b
+  pub links : (a b : ℕ) → Live t a → Live t b → (rootIn t a ≡ rootIn t b) ↔ Linked (joins (surviving h)) a b
   -- "each root's byte-seconds are the exact sum of the surviving creations and posts on its group's keys"
   pub sums : (r : ℕ) → Root t r → rowAt (t .rows) r .amount ≡ inGroup t r (byteSeconds (surviving h))
   -- "each root's owner is the one named in its group's surviving creations and posts"
@@ -58,9 +58,9 @@ pub record Demand (t : Table) (h : History) : Type 0 where
   -- "or none where none is named"
   pub unowned : (r : ℕ) → Root t r → ((n : ℕ) → inGroup t r (namings n (surviving h)) ≡ 0) → rowAt (t .rows) r .owner ≡ Nobody
   -- "for each walk, 2 to the power of its steps is at most the number of keys in its group"
-  pub short : (key : ℕ) → Live t key → 2 ^ stepsOf t key ≤ groupSize t (rootOf t key)
+  pub short : (key : ℕ) → Live t key → 2 ^ stepsIn t key ≤ groupSize t (rootIn t key)
   -- and so for a second walk, which a join and `unioned` make in the table as the first leaves it
-  pub short-second : (a b : ℕ) → Live t a → Live t b → 2 ^ stepsOf (afterWalk t a) b ≤ groupSize t (rootOf t b)
+  pub short-second : (a b : ℕ) → Live t a → Live t b → 2 ^ stepsIn (afterWalk t a) b ≤ groupSize t (rootIn t b)
   -- "no call is answered 8, and none 9 where what is lent has equal lengths within the limits"
   pub peace : Peaceful h
   -- "the surviving creations' keys are exactly 0 to count − 1"

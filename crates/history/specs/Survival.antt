@@ -45,11 +45,11 @@ anyOf test (t ∷ ts) = test t || anyOf test ts
 -- ---- the rule
 
 -- A call made after `before` and before `later`.
-abbrev pub rolledBack : History → History → Bool
-rolledBack before later = anyOf (undoneIn later) (openAfter before)
+abbrev pub isRolledBack : History → History → Bool
+isRolledBack before later = anyOf (undoneIn later) (openAfter before)
 
 abbrev pub survives : History → Event → History → Bool
-survives before e later = isDone e && not (rolledBack before later)
+survives before e later = isDone e && not (isRolledBack before later)
 
 -- The calls of a history that survive it and what comes later, the newest first.
 unfoldable pub survivors : History → History → History

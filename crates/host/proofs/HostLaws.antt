@@ -1,7 +1,7 @@
 -- A call on lent numbers, and a list of them, is the rules' step and a run of it. Assumes nothing.
 use mathlib.Core.Path.{_≡_, refl, sym, ap, _∙_}
 use mathlib.Core.Bool.{true, false}
-use mathlib.Core.List.{List, [], _∷_, _++_}
+use mathlib.Core.List.{List, [], _++_}
 use Prim.Native.Nat.{ℕ, suc, _+_, _*_, _≤_, _<_}
 use native.Mathlib.Omega.{arith}
 use lib.ListN.{length, drop}
@@ -9,76 +9,68 @@ use lib.Seq.{sets, drop-length}
 use borrow.Author.Tests.{lt-ltb, le-ltb, eq-eqb, ne-eqb}
 use Rattle.rules.specs.declared.call.Answer.{Answer}
 use Rattle.rules.specs.declared.call.Call.{Call}
+use Rattle.rules.specs.declared.table.Head.{Head}
+use Rattle.rules.specs.declared.table.Mark.{Mark}
+use Rattle.rules.specs.declared.table.Sought.{Sought}
 use Rattle.rules.specs.declared.table.State.{State}
-use Rattle.rules.specs.Lent.{Rows, Log, Table, table}
+use Rattle.rules.specs.Lent.{Table}
+use Rattle.rules.specs.Answer.{answerNumbers}
 use Rattle.rules.specs.Refusal.{Outcome, outcome}
 use Rattle.rules.specs.Step.{step}
-use Rattle.layout.specs.State.{NUMBERS, SERIALS, stateOf, numbersOf, serialsOf}
-use Rattle.layout.specs.Coding.{Listed, unlisted, calls, listed, single, isListed, callsIn, calledAt}
-use Rattle.layout.specs.Answers.{answerNumbers, answersNumbers}
-use Rattle.layout.proofs.LayoutLaws.{numbers-state, serials-state}
+use Rattle.undo_log.specs.declared.tokens.Settled.{Settled}
+use Rattle.undo_log.specs.Settled.{stateWith, stateAfter, markFor}
+use Rattle.decide.specs.Decided.{Carried}
+use Rattle.layout.specs.State.{NUMBERS, SERIALS, Sized}
+use Rattle.layout.specs.Coding.{Listed, unlisted, calls, callList, single, isListed, callsIn, callAt}
+use Rattle.layout.specs.Answers.{answersNumbers}
+use Rattle.layout.proofs.LayoutLaws.{numbers-state}
 use Rattle.layout.proofs.CodingLaws.{Next, next-call}
-use Rattle.host.specs.declared.one.Way.{Way}
-use Rattle.host.specs.Ways.{wayCall}
 use Rattle.host.specs.Run.{run}
 use Rattle.host.specs.Host.{CARRIED-OUT, NO-STATE, NO-CALL, NO-ROOM, Host, host, hosted, tableOf, served, heard, serve}
 
--- ---- one call, between reading the state and writing it
+-- ---- one call, between reading the head and writing what it leaves
 
-pub one-done : (rs rs′ : Rows) (l l′ : Log) (s s′ s₀ s₁ : State) (a : Answer) (c : Call) → s ≡ s₀
-    → outcome a (table rs′ l′ s′) ≡ step (table rs l s) c → s₁ ≡ s′ → outcome a (table rs′ l′ s₁) ≡ step (table rs l s₀) c
-one-done rs rs′ l l′ s s′ s₀ s₁ a c p q r =
-    ap (λ (x : State). outcome a (table rs′ l′ x)) r ∙ q ∙ ap (λ (x : State). step (table rs l x) c) p
-
--- ---- any of the ways
-
-pub as-way : (t : Table) (c : Call) (d d′ : Way) (o : Outcome) → o ≡ step t (wayCall d′) → d ≡ d′ → wayCall d ≡ c → o ≡ step t c
-as-way t c d d′ o e q h = e ∙ ap (λ (x : Way). step t (wayCall x)) (sym q) ∙ ap (step t) h
+module _ (entry exit : State → Table) (h₀ : Head) (l : ℕ) (ms : List Mark) (c : Call) where
+  pub one-done : (h : Head) (m : Sought) (r : Settled) (s : State) → h ≡ h₀ → m ≡ markFor (stateWith h₀ l ms) c
+      → Carried entry exit h l m c r → s ≡ stateAfter (stateWith h₀ l ms) r → outcome (r .answer) (exit s) ≡ step (entry (stateWith h₀ l ms)) c
+  one-done h m r s p q e w =
+      ap (λ (x : State). outcome (r .answer) (exit x)) w
+      ∙ (rw p at e) ms (sym q)
 
 -- ---- a list of calls
 
 -- All that is lent, from its lists.
-abbrev pub hostFrom : List ℕ → List ℕ → List ℕ → List ℕ → List ℕ → List ℕ → List ℕ → List ℕ → List ℕ → List ℕ → List ℕ → List ℕ → List ℕ → Host
-hostFrom ns ss p r o a k i op or oo oa answers =
-    host ns ss record { parents = p; ranks = r; owners = o; amounts = a }
-    record { kinds = k; keys = i; old = record { parents = op; ranks = or; owners = oo; amounts = oa } } answers
+abbrev pub hostOf : List ℕ → List ℕ → List ℕ → List ℕ → List ℕ → List ℕ → List ℕ → Host
+hostOf ns ss p c a l answers = host ns ss record { parents = p; crowns = c; amounts = a } l answers
 
 -- No lent list changes its length.
 pub record Kept (h₀ h : Host) : Type 0 where
   pub numbers : length (h .numbers) ≡ length (h₀ .numbers)
   pub serials : length (h .serials) ≡ length (h₀ .serials)
   pub parents : length (h .rows .parents) ≡ length (h₀ .rows .parents)
-  pub ranks : length (h .rows .ranks) ≡ length (h₀ .rows .ranks)
-  pub owners : length (h .rows .owners) ≡ length (h₀ .rows .owners)
+  pub crowns : length (h .rows .crowns) ≡ length (h₀ .rows .crowns)
   pub amounts : length (h .rows .amounts) ≡ length (h₀ .rows .amounts)
-  pub logkinds : length (h .log .kinds) ≡ length (h₀ .log .kinds)
-  pub logkeys : length (h .log .keys) ≡ length (h₀ .log .keys)
-  pub logparents : length (h .log .old .parents) ≡ length (h₀ .log .old .parents)
-  pub logranks : length (h .log .old .ranks) ≡ length (h₀ .log .old .ranks)
-  pub logowners : length (h .log .old .owners) ≡ length (h₀ .log .old .owners)
-  pub logamounts : length (h .log .old .amounts) ≡ length (h₀ .log .old .amounts)
+  pub log : length (h .log) ≡ length (h₀ .log)
   pub answers : length (h .answers) ≡ length (h₀ .answers)
 
 -- What is left to be done of the calls, from `at` on, leads to the same end.
 pub record Going (h₀ h : Host) (l : List ℕ) (at to : ℕ) : Type 0 where
   pub kept : Kept h₀ h
-  pub numbers : length (h .numbers) ≡ NUMBERS
-  pub serials : length (h .serials) ≡ SERIALS
-  pub calls : isListed (listed (drop at l)) ≡ true
+  pub sized : Sized (h .numbers) (h .serials)
+  pub calls : isListed (callList (drop at l)) ≡ true
   pub within : at ≤ length l
   pub pace : 4 * to ≡ 9 * at
   pub room : 9 * length l ≤ 4 * length (h .answers)
-  pub table : run (tableOf h) (callsIn (listed (drop at l))) .table ≡ run (tableOf h₀) (callsIn (listed l)) .table
-  pub answers : sets (h .answers) to (answersNumbers (run (tableOf h) (callsIn (listed (drop at l))) .answers))
-      ≡ sets (h₀ .answers) 0 (answersNumbers (run (tableOf h₀) (callsIn (listed l)) .answers))
+  pub table : run (tableOf h) (callsIn (callList (drop at l))) .table ≡ run (tableOf h₀) (callsIn (callList l)) .table
+  pub answers : sets (h .answers) to (answersNumbers (run (tableOf h) (callsIn (callList (drop at l))) .answers))
+      ≡ sets (h₀ .answers) 0 (answersNumbers (run (tableOf h₀) (callsIn (callList l)) .answers))
 
-pub going-starts : (h : Host) (l : List ℕ) → length (h .numbers) ≡ NUMBERS → length (h .serials) ≡ SERIALS → isListed (listed l) ≡ true
+pub going-starts : (h : Host) (l : List ℕ) → Sized (h .numbers) (h .serials) → isListed (callList l) ≡ true
     → 9 * length l ≤ 4 * length (h .answers) → Going h h l 0 0
-going-starts h l n s c r =
+going-starts h l z c r =
     record {
       kept = omega arith;
-      numbers = n;
-      serials = s;
+      sized = z;
       calls = c;
       within = omega arith;
       pace = refl;
@@ -91,44 +83,49 @@ nine-on : (l : List ℕ) (to : ℕ) (a : Answer) (ns : List ℕ) → sets (sets 
 nine-on l to a ns = let e : to + 9 ≡ suc (suc (suc (suc (suc (suc (suc (suc (suc to)))))))) = omega arith in rw e
 
 module _ (h₀ h : Host) (l : List ℕ) (at to : ℕ) (g : Going h₀ h l at to) where
-  pub next-of : at < length l → Next l at
-  next-of k = next-call l at k (g .calls)
+  module _ (k : at < length l) where
+    pub next-of : Next l at
+    next-of = next-call l at k (g .calls)
 
-  pub going-on : (h′ : Host) (a : Answer) → at < length l → outcome a (tableOf h′) ≡ step (tableOf h) (calledAt l at)
-      → h′ .answers ≡ sets (h .answers) to (answerNumbers a) → Kept h h′ → Going h₀ h′ l (at + 4) (to + 9)
-  unfolding run answersNumbers
-  going-on h′ a k e w m =
-      let n = next-of k in
-      let rest = callsIn (listed (drop (at + 4) l)) in
-      let t : tableOf h′ ≡ step (tableOf h) (calledAt l at) .table = ap (λ (o : Outcome). o .table) e in
-      let b : a ≡ step (tableOf h) (calledAt l at) .answer = ap (λ (o : Outcome). o .answer) e in
-      record {
-        kept = omega (arith, m, g .kept);
-        numbers = m .numbers ∙ g .numbers;
-        serials = m .serials ∙ g .serials;
-        calls = n .goes-on;
-        within = n .room;
-        pace = omega (arith, g .pace);
-        room = omega (arith, g .room, m .answers);
-        table = ap (λ (x : Table). run x rest .table) t ∙ ap (λ (cs : List Call). run (tableOf h) cs .table) (sym (n .calls)) ∙ g .table;
-        answers = ap (λ (x : List ℕ). sets x (to + 9) (answersNumbers (run (tableOf h′) rest .answers))) w
-            ∙ nine-on (h .answers) to a (answersNumbers (run (tableOf h′) rest .answers))
-            ∙ ap (λ (x : Table). sets (h .answers) to (answerNumbers a ++ answersNumbers (run x rest .answers))) t
-            ∙ ap (λ (x : Answer). sets (h .answers) to (answerNumbers x ++ answersNumbers (run (step (tableOf h) (calledAt l at) .table) rest .answers))) b
-            ∙ ap (λ (cs : List Call). sets (h .answers) to (answersNumbers (run (tableOf h) cs .answers))) (sym (n .calls))
-            ∙ g .answers;
-      }
+    pub room-of : to + 9 ≤ length (h .answers)
+    room-of = omega (arith, next-of .room, g .room, g .pace)
 
-  pub going-ends : length l ≤ at → h ≡ served h₀ (callsIn (listed l))
-  unfolding run answersNumbers served listed
+    pub going-on : (h′ : Host) (a : Answer) (c : Call) → c ≡ callAt l at → outcome a (tableOf h′) ≡ step (tableOf h) c
+        → h′ .answers ≡ sets (h .answers) to (answerNumbers a) → Kept h h′ → Going h₀ h′ l (at + 4) (to + 9)
+    unfolding run answersNumbers
+    going-on h′ a c q e w m =
+        let n = next-of in
+        let rest = callsIn (callList (drop (at + 4) l)) in
+        let o : outcome a (tableOf h′) ≡ step (tableOf h) (callAt l at) = e ∙ ap (step (tableOf h)) q in
+        let t : tableOf h′ ≡ step (tableOf h) (callAt l at) .table = ap (λ (x : Outcome). x .table) o in
+        let b : a ≡ step (tableOf h) (callAt l at) .answer = ap (λ (x : Outcome). x .answer) o in
+        record {
+          kept = omega (arith, m, g .kept);
+          sized = omega (arith, m, g .sized);
+          calls = n .goes-on;
+          within = n .room;
+          pace = omega (arith, g .pace);
+          room = omega (arith, g .room, m .answers);
+          table = ap (λ (x : Table). run x rest .table) t ∙ ap (λ (cs : List Call). run (tableOf h) cs .table) (sym (n .calls)) ∙ g .table;
+          answers = ap (λ (x : List ℕ). sets x (to + 9) (answersNumbers (run (tableOf h′) rest .answers))) w
+              ∙ nine-on (h .answers) to a (answersNumbers (run (tableOf h′) rest .answers))
+              ∙ ap (λ (x : Table). sets (h .answers) to (answerNumbers a ++ answersNumbers (run x rest .answers))) t
+              ∙ ap (λ (x : Answer). sets (h .answers) to (answerNumbers x ++ answersNumbers (run (step (tableOf h) (callAt l at) .table) rest .answers))) b
+              ∙ ap (λ (cs : List Call). sets (h .answers) to (answersNumbers (run (tableOf h) cs .answers))) (sym (n .calls))
+              ∙ g .answers;
+        }
+
+  pub going-ends : length l ≤ at → h ≡ served h₀ (callsIn (callList l))
+  unfolding run answersNumbers served callList
   going-ends k =
       let all : at ≡ length l = omega (arith, g .within) in
       let none : drop at l ≡ [] = ap (λ (n : ℕ). drop n l) all ∙ drop-length l in
-      let t : tableOf h ≡ run (tableOf h₀) (callsIn (listed l)) .table =
-      ap (λ (x : List ℕ). run (tableOf h) (callsIn (listed x)) .table) (sym none) ∙ g .table in
-      let a : h .answers ≡ sets (h₀ .answers) 0 (answersNumbers (run (tableOf h₀) (callsIn (listed l)) .answers)) =
-      ap (λ (x : List ℕ). sets (h .answers) to (answersNumbers (run (tableOf h) (callsIn (listed x)) .answers))) (sym none) ∙ g .answers in
-      rw (← t, ← a, numbers-state (h .numbers) (h .serials) (g .numbers) (g .serials), serials-state (h .numbers) (h .serials) (g .numbers) (g .serials))
+      let t : tableOf h ≡ run (tableOf h₀) (callsIn (callList l)) .table =
+      ap (λ (x : List ℕ). run (tableOf h) (callsIn (callList x)) .table) (sym none) ∙ g .table in
+      let a : h .answers ≡ sets (h₀ .answers) 0 (answersNumbers (run (tableOf h₀) (callsIn (callList l)) .answers)) =
+      ap (λ (x : List ℕ). sets (h .answers) to (answersNumbers (run (tableOf h) (callsIn (callList x)) .answers))) (sym none) ∙ g .answers in
+      let b = numbers-state (h .numbers) (h .serials) (g .sized) in
+      rw (← t, ← a, b .0, b .1)
 
 -- ---- the exported functions' ends
 
@@ -171,5 +168,5 @@ module _ (h : Host) (l : Listed) where
 pub not-single : (l : List ℕ) → (length l ≡ 4 → ⊥) → isListed (single l) ≡ false
 not-single l d = rw (ne-eqb (length l) 4 d)
 
-pub is-single : (l : List ℕ) → length l ≡ 4 → listed l ≡ single l
-is-single l q = rw (eq-eqb (length l) 4 q)
+pub as-single : (h h′ : Host) (l : List ℕ) (n : ℕ) → length l ≡ 4 → hosted n h′ ≡ serve h (callList l) → hosted n h′ ≡ serve h (single l)
+as-single h h′ l n q e = rw (eq-eqb (length l) 4 q) e

@@ -9,8 +9,8 @@ use denote.Ref.{now}
 use denote.Triple.Both.{Both}
 use Rattle.rules.specs.declared.call.Call.{Call}
 use Rattle.rules.specs.Lent.{Rows, Log, Table, table}
-use Rattle.rules.specs.Contract.{Lent, rowsLent, logLent}
-use Rattle.layout.specs.State.{NUMBERS, SERIALS, stateOf, numbersOf, serialsOf}
+use Rattle.rules.specs.Contract.{Slice, Lent, rowsNow}
+use Rattle.layout.specs.State.{NUMBERS, SERIALS, stateOf, stateNumbers, stateSerials}
 use Rattle.layout.specs.Coding.{Listed, unlisted, calls}
 use Rattle.layout.specs.Answers.{answersNumbers}
 use Rattle.host.specs.Run.{run}
@@ -48,7 +48,7 @@ unfoldable pub served : Host → List Call → Host
 served h cs =
     let r = run (tableOf h) cs in
     let s = r .table .state in
-    host (numbersOf s) (serialsOf s) (r .table .rows) (r .table .log) (sets (h .answers) 0 (answersNumbers (r .answers)))
+    host (stateNumbers s) (stateSerials s) (r .table .rows) (r .table .log) (sets (h .answers) 0 (answersNumbers (r .answers)))
 
 -- A code, and all that is lent as it is left.
 pub record Hosted : Type 0 where
@@ -59,26 +59,27 @@ abbrev pub hosted : ℕ → Host → Hosted
 hosted n h = record { code = n; host = h }
 
 -- Else nothing at all is written.
-abbrev pub refuse : Bool → ℕ → Host → Hosted → Hosted
-refuse test n h rest = cond test (hosted n h) rest
+abbrev pub refuseHost : Bool → ℕ → Host → Hosted → Hosted
+refuseHost test n h rest = cond test (hosted n h) rest
 
 abbrev pub stateless : Host → Bool
 stateless h = not (eqb (length (h .numbers)) NUMBERS && eqb (length (h .serials)) SERIALS)
 
 abbrev pub heard : Host → Listed → Hosted
 heard h unlisted = hosted NO-CALL h
-heard h (calls cs) = refuse (ltb (length (h .answers)) (9 * length cs)) NO-ROOM h (hosted CARRIED-OUT (served h cs))
+heard h (calls cs) = refuseHost (ltb (length (h .answers)) (9 * length cs)) NO-ROOM h (hosted CARRIED-OUT (served h cs))
 
 -- "Tested in this order": a state's numbers, the calls, room for the answers.
 unfoldable pub serve : Host → Listed → Hosted
-serve h l = refuse (stateless h) NO-STATE h (heard h l)
+serve h l = refuseHost (stateless h) NO-STATE h (heard h l)
 
 -- In an `ensures`: all that is lent, at both ends.
-abbrev pub hostLent : Lent → Lent → Lent → Lent → Lent → Lent → Lent → Lent → Lent → Lent → Lent → Lent → Lent → Both Host Host
-hostLent ns ss p r o a k i op or oo oa answers =
-    let rs = rowsLent p r o a in
-    let l = logLent k i op or oo oa in
+abbrev pub hostNow : Slice → Slice → Slice → Slice → Slice → Slice → Slice → Host
+hostNow ns ss p c a l answers = host (now ns) (now ss) (rowsNow p c a) (now l) (now answers)
+
+abbrev pub hostLent : Lent → Lent → Lent → Lent → Lent → Lent → Lent → Both Host Host
+hostLent ns ss p c a l answers =
     record {
-      entry = host (now (ns .entry)) (now (ss .entry)) (rs .entry) (l .entry) (now (answers .entry));
-      exit = host (now (ns .exit)) (now (ss .exit)) (rs .exit) (l .exit) (now (answers .exit));
+      entry = hostNow (ns .entry) (ss .entry) (p .entry) (c .entry) (a .entry) (l .entry) (answers .entry);
+      exit = hostNow (ns .exit) (ss .exit) (p .exit) (c .exit) (a .exit) (l .exit) (answers .exit);
     }

@@ -1,4 +1,3 @@
 -- What the exported functions leave.
 pub mod Run
 pub mod Host
-pub mod Ways

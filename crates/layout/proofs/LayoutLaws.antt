@@ -1,20 +1,29 @@
--- The numbers of a state: what stands where, and that each is the other's. Assumes nothing.
+-- The numbers of a state: what stands where, what a call writes, and that numbers and state are each other's. Assumes nothing.
 use mathlib.Core.Path.{_≡_, refl, sym, ap, _∙_}
+use mathlib.Core.Bool.{Bool, true, false, cond}
 use mathlib.Core.List.{List, [], _∷_, map}
-use Prim.Native.Nat.{ℕ, zero, suc, _+_, _<_}
+use Prim.Native.Nat.{ℕ, zero, suc, _+_, _-_, _≤_, _<_}
 use native.Mathlib.Omega.{arith}
-use native.Mathlib.Decide.{ℕ-discrete}
-use lib.ListN.{length, getD, set, drop, length-drop, length-set}
-use lib.Seq.{ext-getD, getD-drop, getD-set-same, getD-set-other}
+use native.Mathlib.Numerals.{add-one}
+use lib.ListN.{length, getD, set}
+use lib.Seq.{set-out}
+use lib.Dec.{ltb}
+use borrow.Author.Tests.{lt-ltb, le-ltb, eq-eqb, ne-eqb}
+use Rattle.rules.specs.declared.call.Call.{Call}
+use Rattle.rules.specs.declared.call.Call.the-variants.{Rollback, Commit, Keys, Actions, Changes}
+use Rattle.rules.specs.declared.table.Head.{Head}
 use Rattle.rules.specs.declared.table.Mark.{Mark}
+use Rattle.rules.specs.declared.table.Sought.the-variants.{Missing, Held}
 use Rattle.rules.specs.declared.table.State.{State}
 use Rattle.rules.specs.Numbers.{MAX-OPEN}
-use Rattle.rules.specs.Lent.{mark}
-use Rattle.layout.specs.State.{NUMBERS, SERIALS, marksOf, stateOf, pairsOf, numbersOf, serialsOf}
+use Rattle.rules.specs.Lent.{mark, markAt}
+use Rattle.rules.specs.Tokens.{innermost, seek}
+use Rattle.undo_log.specs.declared.tokens.Settled.{Settled}
+use Rattle.undo_log.specs.Settled.{stateAfter, latest, markOf, markFor}
+use Rattle.undo_log.proofs.MarkLaws.{seek-hit, seek-miss}
+use Rattle.layout.specs.State.{Sized, marksOf, headIn, stateOf, pairsOf, stateNumbers, stateSerials}
 
--- Mark i, as the numbers have it.
-abbrev pub markIn : List ℕ → List ℕ → ℕ → Mark
-markIn ns ss i = mark (getD ss (i + 1) 0) (getD ns (i + i + 3) 0) (getD ns (i + i + 3 + 1) 0)
+-- ---- marks as numbers: log length and keys two by two, and the serials
 
 marks-length : (ns ss : List ℕ) → length ns ≡ length ss + length ss → length (marksOf ns ss) ≡ length ss
 unfolding marksOf
@@ -30,7 +39,7 @@ twice-more : (i : ℕ) → suc (suc (i + i)) + 1 ≡ suc (suc (i + i + 1))
 twice-more i = omega arith
 
 marks-at : (ns ss : List ℕ) (i : ℕ) → length ns ≡ length ss + length ss → i < length ss
-    → getD (marksOf ns ss) i (mark 0 0 0) ≡ mark (getD ss i 0) (getD ns (i + i) 0) (getD ns (i + i + 1) 0)
+    → mark (getD ss i 0) (getD ns (i + i) 0) (getD ns (i + i + 1) 0) ≡ getD (marksOf ns ss) i (mark 0 0 0)
 unfolding marksOf
 marks-at [] ss i e h = absurd (omega arith)
 marks-at (l ∷ []) ss i e h = absurd (omega arith)
@@ -38,118 +47,87 @@ marks-at (l ∷ k ∷ ns) [] i e h = absurd (omega arith)
 marks-at (l ∷ k ∷ ns) (s ∷ ss) zero e h = refl
 marks-at (l ∷ k ∷ ns) (s ∷ ss) (suc i) e h = rw (twice i, twice-more i) (marks-at ns ss i (omega arith) (omega arith))
 
-module _ (ns ss : List ℕ) (n : length ns ≡ NUMBERS) (s : length ss ≡ SERIALS) where
-  level : length (drop 3 ns) ≡ length (drop 1 ss) + length (drop 1 ss)
-  level = omega (arith, length-drop 3 ns, length-drop 1 ss)
+marks-set : (ns ss : List ℕ) (i x y z : ℕ) → marksOf (set (set ns (i + i) x) (i + i + 1) y) (set ss i z) ≡ set (marksOf ns ss) i (mark z x y)
+unfolding marksOf
+marks-set [] ss i x y z = refl
+marks-set (l ∷ []) ss zero x y z = refl
+marks-set (l ∷ []) ss (suc i) x y z = rw (twice i, twice-more i)
+marks-set (l ∷ k ∷ ns) [] zero x y z = refl
+marks-set (l ∷ k ∷ ns) [] (suc i) x y z = rw (twice i, twice-more i)
+marks-set (l ∷ k ∷ ns) (s ∷ ss) zero x y z = refl
+marks-set (l ∷ k ∷ ns) (s ∷ ss) (suc i) x y z = rw (twice i, twice-more i) (ap (λ (r : List Mark). mark s l k ∷ r) (marks-set ns ss i x y z))
 
-  pub marks-32 : length (marksOf (drop 3 ns) (drop 1 ss)) ≡ MAX-OPEN
-  marks-32 = omega (arith, marks-length (drop 3 ns) (drop 1 ss) level, length-drop 1 ss)
+-- ---- the numbers of a state
 
-  pub marks-read : (i : ℕ) → i < MAX-OPEN → getD (marksOf (drop 3 ns) (drop 1 ss)) i (mark 0 0 0) ≡ markIn ns ss i
-  marks-read i h =
-      let serial : getD (drop 1 ss) i 0 ≡ getD ss (i + 1) 0 = getD-drop 1 ss i 0 ∙ ap (λ (k : ℕ). getD ss k 0) (omega arith) in
-      let log : getD (drop 3 ns) (i + i) 0 ≡ getD ns (i + i + 3) 0 = getD-drop 3 ns (i + i) 0 ∙ ap (λ (k : ℕ). getD ns k 0) (omega arith) in
-      let keys : getD (drop 3 ns) (i + i + 1) 0 ≡ getD ns (i + i + 3 + 1) 0 =
-      getD-drop 3 ns (i + i + 1) 0 ∙ ap (λ (k : ℕ). getD ns k 0) (omega arith) in
-      marks-at (drop 3 ns) (drop 1 ss) i level (omega (arith, length-drop 1 ss)) ∙ rw (serial, log, keys)
+data Shaped : List ℕ → List ℕ → Type 0 where
+  shaped : (c u o l : ℕ) (ns ss : List ℕ) → length ns ≡ 64 → length ss ≡ 32 → Shaped (c ∷ u ∷ o ∷ ns) (l ∷ ss)
 
-  -- A state with these numbers in their places is the one that they stand for.
-  pub same-state : (t : State) → getD ns 0 0 ≡ t .count → getD ns 1 0 ≡ t .used → getD ns 2 0 ≡ t .«open» → getD ss 0 0 ≡ t .last
-      → length (t .marks) ≡ MAX-OPEN → ((i : ℕ) → i < MAX-OPEN → getD (t .marks) i (mark 0 0 0) ≡ markIn ns ss i) → stateOf ns ss ≡ t
-  same-state t c u o l m f =
-      let marks : marksOf (drop 3 ns) (drop 1 ss) ≡ t .marks =
-      ext-getD (mark 0 0 0) (marksOf (drop 3 ns) (drop 1 ss)) (t .marks) (marks-32 ∙ sym m)
-      (λ i h. let b : i < MAX-OPEN = omega (arith, marks-32) in marks-read i b ∙ sym (f i b)) in
-      rw (c, u, o, l, marks)
+shape : (ns ss : List ℕ) → Sized ns ss → Shaped ns ss
+shape [] ss z = absurd (omega arith)
+shape (c ∷ []) ss z = absurd (omega arith)
+shape (c ∷ u ∷ []) ss z = absurd (omega arith)
+shape (c ∷ u ∷ o ∷ ns) [] z = absurd (omega arith)
+shape (c ∷ u ∷ o ∷ ns) (l ∷ ss) z = shaped c u o l ns ss (omega arith) (omega arith)
 
--- ---- written and read one by one
+-- Where the numbers of mark i stand.
+past : (i : ℕ) → i + i + 3 ≡ suc (suc (suc (i + i)))
+past i = omega arith
 
--- The first i of these marks are those that the numbers have.
-abbrev pub Marks : List ℕ → List ℕ → List Mark → ℕ → Type 0
-Marks ns ss ms i = (k : ℕ) → k < i → getD ms k (mark 0 0 0) ≡ markIn ns ss k
+past-one : (i : ℕ) → i + i + 3 + 1 ≡ suc (suc (suc (i + i + 1)))
+past-one i = omega arith
 
-pub one-mark : (ns ss : List ℕ) (ms : List Mark) (i : ℕ) → i < length ms → Marks ns ss ms i → Marks ns ss (set ms i (markIn ns ss i)) (i + 1)
-one-mark ns ss ms i h f k l =
-    elim (ℕ-discrete k i) [
-      | yes q ↦ rw q (getD-set-same ms i (markIn ns ss i) (mark 0 0 0) h)
-      | no n ↦ getD-set-other ms i k (markIn ns ss i) (mark 0 0 0) n ∙ f k (omega arith)
-    ]
+abbrev markIn : List ℕ → List ℕ → ℕ → Mark
+markIn ns ss i = mark (getD ss (i + 1) 0) (getD ns (i + i + 3) 0) (getD ns (i + i + 3 + 1) 0)
 
--- The numbers stand for a state, up to mark i.
-pub record Written (t : State) (ns ss : List ℕ) (i : ℕ) : Type 0 where
-  pub numbers : length ns ≡ NUMBERS
-  pub serials : length ss ≡ SERIALS
-  pub count : getD ns 0 0 ≡ t .count
-  pub used : getD ns 1 0 ≡ t .used
-  pub opened : getD ns 2 0 ≡ t .«open»
-  pub last : getD ss 0 0 ≡ t .last
-  pub marks : Marks ns ss (t .marks) i
+mark-there : {ns ss : List ℕ} (i : ℕ) → i < MAX-OPEN → Shaped ns ss → markIn ns ss i ≡ markAt (stateOf ns ss) i
+mark-there i h (shaped c u o l ns ss n s) = rw (past-one i, past i, add-one i) (marks-at ns ss i (omega arith) (omega arith))
 
-module _ (t : State) (ns ss : List ℕ) where
-  pub written-none : length ns ≡ NUMBERS → length ss ≡ SERIALS
-      → Written t (set (set (set ns 0 (t .count)) 1 (t .used)) 2 (t .«open»)) (set ss 0 (t .last)) 0
-  written-none n s =
-      let l1 = length-set ns 0 (t .count) in
-      let l2 = length-set (set ns 0 (t .count)) 1 (t .used) in
-      let l3 = length-set (set (set ns 0 (t .count)) 1 (t .used)) 2 (t .«open») in
-      record {
-        numbers = omega arith;
-        serials = length-set ss 0 (t .last) ∙ s;
-        count = getD-set-other (set (set ns 0 (t .count)) 1 (t .used)) 2 0 (t .«open») 0 (λ q. omega arith)
-            ∙ getD-set-other (set ns 0 (t .count)) 1 0 (t .used) 0 (λ q. omega arith)
-            ∙ getD-set-same ns 0 (t .count) 0 (omega arith);
-        used = getD-set-other (set (set ns 0 (t .count)) 1 (t .used)) 2 1 (t .«open») 0 (λ q. omega arith)
-            ∙ getD-set-same (set ns 0 (t .count)) 1 (t .used) 0 (omega arith);
-        opened = getD-set-same (set (set ns 0 (t .count)) 1 (t .used)) 2 (t .«open») 0 (omega arith);
-        last = getD-set-same ss 0 (t .last) 0 (omega arith);
-        marks = λ k h. absurd (omega arith);
-      }
+pub mark-read : (ns ss : List ℕ) (i : ℕ) → i < MAX-OPEN → Sized ns ss → markIn ns ss i ≡ markAt (stateOf ns ss) i
+mark-read ns ss i h z = mark-there i h (shape ns ss z)
 
-  -- a number written past what stands there already
-  kept : (l : List ℕ) (i j x y v : ℕ) → (i ≡ j → ⊥) → (i ≡ j + 1 → ⊥) → getD l i 0 ≡ v → getD (set (set l j x) (j + 1) y) i 0 ≡ v
-  kept l i j x y v m n e = getD-set-other (set l j x) (j + 1) i y 0 n ∙ getD-set-other l j i x 0 m ∙ e
+-- ---- what a call writes
 
-  module _ (i : ℕ) (h : i < MAX-OPEN) where
-    abbrev pub numbersPlus : List ℕ
-    numbersPlus = set (set ns (i + i + 3) (getD (t .marks) i (mark 0 0 0) .«log_len»)) (i + i + 3 + 1) (getD (t .marks) i (mark 0 0 0) .keys)
+abbrev headed : List ℕ → Head → List ℕ
+headed ns h = set (set (set ns 0 (h .count)) 1 (h .used)) 2 (h .«open»)
 
-    abbrev pub serialsPlus : List ℕ
-    serialsPlus = set ss (i + 1) (getD (t .marks) i (mark 0 0 0) .serial)
+abbrev opened : List ℕ → Head → List ℕ
+opened ns b = let i = b .«open» in set (set ns (i + i + 3) (b .used)) (i + i + 3 + 1) (b .count)
 
-    pub written-more : Written t ns ss i → Written t numbersPlus serialsPlus (i + 1)
-    written-more w =
-        let m = getD (t .marks) i (mark 0 0 0) in
-        let l1 = length-set ns (i + i + 3) (m .«log_len») in
-        let l2 = length-set (set ns (i + i + 3) (m .«log_len»)) (i + i + 3 + 1) (m .keys) in
-        record {
-          numbers = omega (arith, w .numbers);
-          serials = length-set ss (i + 1) (m .serial) ∙ w .serials;
-          count = kept ns 0 (i + i + 3) (m .«log_len») (m .keys) (t .count) (λ q. omega arith) (λ q. omega arith) (w .count);
-          used = kept ns 1 (i + i + 3) (m .«log_len») (m .keys) (t .used) (λ q. omega arith) (λ q. omega arith) (w .used);
-          opened = kept ns 2 (i + i + 3) (m .«log_len») (m .keys) (t .«open») (λ q. omega arith) (λ q. omega arith) (w .opened);
-          last = getD-set-other ss (i + 1) 0 (m .serial) 0 (λ q. omega arith) ∙ w .last;
-          marks = marks-more w;
-        }
-      where
-        marks-more : Written t ns ss i → Marks numbersPlus serialsPlus (t .marks) (i + 1)
-        marks-more w k l =
-            let m = getD (t .marks) i (mark 0 0 0) in
-            elim (ℕ-discrete k i) [
-              | yes q ↦ rw q (sym (rw (
-                getD-set-same ss (i + 1) (m .serial) 0 (omega (arith, w .serials)),
-                getD-set-other (set ns (i + i + 3) (m .«log_len»)) (i + i + 3 + 1) (i + i + 3) (m .keys) 0 (λ q. omega arith),
-                getD-set-same ns (i + i + 3) (m .«log_len») 0 (omega (arith, w .numbers)),
-                getD-set-same (set ns (i + i + 3) (m .«log_len»)) (i + i + 3 + 1) (m .keys) 0 (omega (arith, w .numbers, length-set ns (i + i + 3) (m .«log_len»))),
-              )))
-              | no n ↦ w .marks k (omega arith) ∙ sym (rw (
-                getD-set-other ss (i + 1) (k + 1) (m .serial) 0 (λ q. n (omega arith)),
-                kept ns (k + k + 3) (i + i + 3) (m .«log_len») (m .keys) _ (λ q. n (omega arith)) (λ q. omega arith) refl,
-                kept ns (k + k + 3 + 1) (i + i + 3) (m .«log_len») (m .keys) _ (λ q. omega arith) (λ q. n (omega arith)) refl,
-              ))
-            ]
+-- No snapshot was opened.
+level-there : {ns ss : List ℕ} (r : Settled) → r .head .«open» ≤ getD ns 2 0 → Shaped ns ss
+    → stateOf (headed ns (r .head)) ss ≡ stateAfter (stateOf ns ss) r
+unfolding stateAfter
+level-there r h (shaped c u o l ns ss n s) = rw (le-ltb o (r .head .«open») h)
 
-  pub written-all : Written t ns ss MAX-OPEN → length (t .marks) ≡ MAX-OPEN → stateOf ns ss ≡ t
-  written-all w m = same-state ns ss (w .numbers) (w .serials) t (w .count) (w .used) (w .opened) (w .last) m (w .marks)
+-- One was, and its mark has no place.
+beyond-there : {ns ss : List ℕ} (r : Settled) → getD ns 2 0 < r .head .«open» → MAX-OPEN ≤ getD ns 2 0 → Shaped ns ss
+    → stateOf (headed ns (r .head)) (set ss 0 (r .answer .token)) ≡ stateAfter (stateOf ns ss) r
+unfolding stateAfter
+beyond-there r h k (shaped c u o l ns ss n s) =
+    rw (lt-ltb o (r .head .«open») h, set-out (marksOf ns ss) o (mark (r .answer .token) u c) (omega (arith, marks-length ns ss (omega arith))))
+
+-- One was, and its mark is written.
+opened-there : {ns ss : List ℕ} (r : Settled) → getD ns 2 0 < r .head .«open» → Shaped ns ss
+    → stateOf (opened (headed ns (r .head)) (headIn ns)) (set (set ss 0 (r .answer .token)) (getD ns 2 0 + 1) (r .answer .token))
+    ≡ stateAfter (stateOf ns ss) r
+unfolding stateAfter
+opened-there r h (shaped c u o l ns ss n s) =
+    rw (lt-ltb o (r .head .«open») h, past-one o, past o, add-one o, marks-set ns ss o u c (r .answer .token))
+
+module _ (ns ss : List ℕ) (z : Sized ns ss) (b : Head) (q : b ≡ headIn ns) (r : Settled) where
+  was : b .«open» ≡ getD ns 2 0
+  was = ap (λ (h : Head). h .«open») q
+
+  pub after-level : r .head .«open» ≤ b .«open» → stateOf (headed ns (r .head)) ss ≡ stateAfter (stateOf ns ss) r
+  after-level h = level-there r (omega (arith, was)) (shape ns ss z)
+
+  module _ (h : b .«open» < r .head .«open») where
+    pub after-beyond : MAX-OPEN ≤ b .«open» → stateOf (headed ns (r .head)) (set ss 0 (r .answer .token)) ≡ stateAfter (stateOf ns ss) r
+    after-beyond k = beyond-there r (omega (arith, was)) (omega (arith, was)) (shape ns ss z)
+
+    pub after-opened
+        : stateOf (opened (headed ns (r .head)) b) (set (set ss 0 (r .answer .token)) (b .«open» + 1) (r .answer .token)) ≡ stateAfter (stateOf ns ss) r
+    after-opened = rw q (opened-there r (omega (arith, was)) (shape ns ss z))
 
 -- ---- each is the other's
 
@@ -158,7 +136,7 @@ unfolding marksOf pairsOf
 back [] = refl
 back (m ∷ ms) = ap (λ (r : List Mark). m ∷ r) (back ms)
 
-pub state-numbers : (s : State) → stateOf (numbersOf s) (serialsOf s) ≡ s
+pub state-numbers : (s : State) → stateOf (stateNumbers s) (stateSerials s) ≡ s
 state-numbers s = rw (back (s .marks))
 
 pairs : (ns ss : List ℕ) → length ns ≡ length ss + length ss → pairsOf (marksOf ns ss) ≡ ns
@@ -173,15 +151,58 @@ unfolding marksOf
 firsts [] [] e = refl
 firsts [] (s ∷ ss) e = absurd (omega arith)
 firsts (l ∷ []) ss e = absurd (omega arith)
-firsts (l ∷ k ∷ ns) [] e = refl
+firsts (l ∷ k ∷ ns) [] e = absurd (omega arith)
 firsts (l ∷ k ∷ ns) (s ∷ ss) e = ap (λ (r : List ℕ). s ∷ r) (firsts ns ss (omega arith))
 
-pub numbers-state : (ns ss : List ℕ) → length ns ≡ NUMBERS → length ss ≡ SERIALS → numbersOf (stateOf ns ss) ≡ ns
-numbers-state [] ss n s = absurd (omega arith)
-numbers-state (c ∷ []) ss n s = absurd (omega arith)
-numbers-state (c ∷ u ∷ []) ss n s = absurd (omega arith)
-numbers-state (c ∷ u ∷ o ∷ ns) ss n s = rw (pairs ns (drop 1 ss) (omega (arith, length-drop 1 ss)))
+both-back : {ns ss : List ℕ} → Shaped ns ss → (stateNumbers (stateOf ns ss) ≡ ns) × (stateSerials (stateOf ns ss) ≡ ss)
+both-back (shaped c u o l ns ss n s) = (rw (pairs ns ss (omega arith)), rw (firsts ns ss (omega arith)))
 
-pub serials-state : (ns ss : List ℕ) → length ns ≡ NUMBERS → length ss ≡ SERIALS → serialsOf (stateOf ns ss) ≡ ss
-serials-state ns [] n s = absurd (omega arith)
-serials-state ns (l ∷ ss) n s = rw (firsts (drop 3 ns) ss (omega (arith, length-drop 3 ns)))
+pub numbers-state : (ns ss : List ℕ) → Sized ns ss → (stateNumbers (stateOf ns ss) ≡ ns) × (stateSerials (stateOf ns ss) ≡ ss)
+numbers-state ns ss z = both-back (shape ns ss z)
+
+-- ---- the mark that a token names
+
+module _ (s : State) (token : ℕ) (m : Mark) where
+  module _ (n : s .«open» ≡ 0 → ⊥) (q : m ≡ innermost s) where
+    pub is-latest : m .serial ≡ token → Held m ≡ latest s token
+    is-latest e = rw (q, ne-eqb (s .«open») 0 n, eq-eqb (innermost s .serial) token (ap (λ (x : Mark). x .serial) (sym q) ∙ e))
+
+    pub not-latest : (m .serial ≡ token → ⊥) → Missing ≡ latest s token
+    not-latest d = rw (ne-eqb (s .«open») 0 n, ne-eqb (innermost s .serial) token (λ e. d (ap (λ (x : Mark). x .serial) q ∙ e)))
+
+  -- The mark before `left` is the next to be looked at.
+  module _ (left : ℕ) (h : 0 < left) (q : m ≡ markAt s (left - 1)) where
+    prev : suc (left - 1) ≡ left
+    prev = omega arith
+
+    pub found-there : m .serial ≡ token → Held m ≡ seek s token left
+    found-there e =
+        ap Held q ∙ seek-hit s token (left - 1) (ap (λ (x : Mark). x .serial) (sym q) ∙ e) ∙ ap (seek s token) prev
+
+    pub not-there : (m .serial ≡ token → ⊥) → seek s token (left - 1) ≡ seek s token left
+    not-there d =
+        sym (seek-miss s token (left - 1) (λ e. d (ap (λ (x : Mark). x .serial) q ∙ e))) ∙ ap (seek s token) prev
+
+-- ---- the mark that a call is about
+
+either : (b : Bool) → cond b Missing Missing ≡ Missing
+either true = refl
+either false = refl
+
+-- A call that names no token is about no mark, whatever is open.
+pub no-mark : (s : State) (c : Call) → Missing ≡ markOf s c → Missing ≡ markFor s c
+unfolding markFor
+no-mark s c q = rw (← q) (sym (either (ltb MAX-OPEN (s .«open»))))
+
+-- A commit is about the mark that a rollback is about, and all questions are about the same one.
+pub commit-mark : (s : State) (token : ℕ) → markFor s (Rollback token) ≡ markFor s (Commit token)
+unfolding markFor
+commit-mark s token = refl
+
+pub actions-mark : (s : State) (token : ℕ) → markFor s (Keys token) ≡ markFor s (Actions token)
+unfolding markFor
+actions-mark s token = refl
+
+pub changes-mark : (s : State) (token : ℕ) → markFor s (Keys token) ≡ markFor s (Changes token)
+unfolding markFor
+changes-mark s token = refl

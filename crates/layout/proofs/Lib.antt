@@ -1,4 +1,4 @@
--- What the proofs of several functions use, and that a state's numbers and the state are each other's.
+-- What the proofs of several functions use, and CodingLaws for the crate that carries calls out.
 pub mod LayoutLaws
 pub mod CodingLaws
 pub mod AnswerLaws

@@ -1,9 +1,12 @@
 -- A call as four numbers: its code, then a, b and c.
+use mathlib.Core.Path.{_≡_}
 use mathlib.Core.Bool.{Bool, true, false, cond, _&&_}
 use mathlib.Core.List.{List, [], _∷_}
 use Prim.Native.Nat.{ℕ, _+_}
 use lib.ListN.{length, getD}
 use lib.Dec.{eqb, leb, ltb}
+use Rattle.layout.specs.declared.coding.Form.{Form}
+use Rattle.layout.specs.declared.coding.Limits.{Limits}
 use Rattle.rules.specs.declared.call.Call.{Call}
 use Rattle.rules.specs.declared.call.Call.the-variants.{New, Len, Find, Unioned, Join, Post, Probe, ProbeKey, TryProbe, Snapshot, Rollback, Commit, Keys, Actions, Changes}
 
@@ -17,41 +20,40 @@ SHORT = 4294967295
 abbrev pub LONG : ℕ
 LONG = 18446744073709551615
 
--- What a code stands for: how large a, b and c may be, and the call that is made of them.
-pub record Form : Type 0 where
-  pub a : ℕ
-  pub b : ℕ
-  pub c : ℕ
-  pub call : ℕ → ℕ → ℕ → Call
-
-abbrev pub form : ℕ → ℕ → ℕ → (ℕ → ℕ → ℕ → Call) → Form
-form x y z f = record { a = x; b = y; c = z; call = f }
-
--- The codes from 0 on, in the order of CALLS.md.
-abbrev pub forms : List Form
-forms =
-    form SHORT LONG UNUSED (λ a b c. New a b)
-    ∷ form UNUSED UNUSED UNUSED (λ a b c. Len)
-    ∷ form SHORT UNUSED UNUSED (λ a b c. Find a)
-    ∷ form SHORT SHORT UNUSED (λ a b c. Unioned a b)
-    ∷ form SHORT SHORT UNUSED (λ a b c. Join a b)
-    ∷ form SHORT SHORT LONG (λ a b c. Post a b c)
-    ∷ form SHORT UNUSED UNUSED (λ a b c. Probe a)
-    ∷ form SHORT UNUSED UNUSED (λ a b c. ProbeKey a)
-    ∷ form SHORT UNUSED UNUSED (λ a b c. TryProbe a)
-    ∷ form UNUSED UNUSED UNUSED (λ a b c. Snapshot)
-    ∷ form LONG UNUSED UNUSED (λ a b c. Rollback a)
-    ∷ form LONG UNUSED UNUSED (λ a b c. Commit a)
-    ∷ form LONG UNUSED UNUSED (λ a b c. Keys a)
-    ∷ form LONG UNUSED UNUSED (λ a b c. Actions a)
-    ∷ form LONG UNUSED UNUSED (λ a b c. Changes a)
+-- What a code stands for: how large its three numbers may be, and the call that is made of them. The codes from 0 on, in the order
+-- of CALLS.md.
+abbrev pub callForms : ℕ → ℕ → ℕ → List Form
+callForms a b c =
+    ((SHORT, LONG, UNUSED), New a b)
+    ∷ ((UNUSED, UNUSED, UNUSED), Len)
+    ∷ ((SHORT, UNUSED, UNUSED), Find a)
+    ∷ ((SHORT, SHORT, UNUSED), Unioned a b)
+    ∷ ((SHORT, SHORT, UNUSED), Join a b)
+    ∷ ((SHORT, SHORT, LONG), Post a b c)
+    ∷ ((SHORT, UNUSED, UNUSED), Probe a)
+    ∷ ((SHORT, UNUSED, UNUSED), ProbeKey a)
+    ∷ ((SHORT, UNUSED, UNUSED), TryProbe a)
+    ∷ ((UNUSED, UNUSED, UNUSED), Snapshot)
+    ∷ ((LONG, UNUSED, UNUSED), Rollback a)
+    ∷ ((LONG, UNUSED, UNUSED), Commit a)
+    ∷ ((LONG, UNUSED, UNUSED), Keys a)
+    ∷ ((LONG, UNUSED, UNUSED), Actions a)
+    ∷ ((LONG, UNUSED, UNUSED), Changes a)
     ∷ []
 
-abbrev pub formOf : ℕ → Form
-formOf code = getD forms code (form UNUSED UNUSED UNUSED (λ a b c. Len))
+abbrev pub CODES : ℕ
+CODES = 15
 
-abbrev pub fits : Form → ℕ → ℕ → ℕ → Bool
-fits f a b c = leb a (f .a) && leb b (f .b) && leb c (f .c)
+abbrev pub formOf : ℕ → ℕ → ℕ → ℕ → Form
+formOf code a b c = getD (callForms a b c) code ((UNUSED, UNUSED, UNUSED), Len)
+
+abbrev pub fits : Limits → ℕ → ℕ → ℕ → Bool
+fits m a b c = leb a (m .0) && leb b (m .1) && leb c (m .2)
+
+-- A form as it should be: its limits, and its call where the numbers fit.
+pub record Formed (f : Form) (a b c : ℕ) (r : Form) : Type 0 where
+  pub most : r .0 ≡ f .0
+  pub call : fits (f .0) a b c ≡ true → r .1 ≡ f .1
 
 -- What four numbers ask for: a call, or nothing that there is.
 pub data Asked : Type 0 where
@@ -59,7 +61,7 @@ pub data Asked : Type 0 where
   asked : Call → Asked
 
 unfoldable pub askedOf : ℕ → ℕ → ℕ → ℕ → Asked
-askedOf code a b c = cond (ltb code (length forms) && fits (formOf code) a b c) (asked (formOf code .call a b c)) nothing
+askedOf code a b c = let f = formOf code a b c in cond (ltb code CODES && fits (f .0) a b c) (asked (f .1)) nothing
 
 -- ---- a list of calls
 
@@ -73,16 +75,16 @@ then nothing l = unlisted
 then (asked c) unlisted = unlisted
 then (asked c) (calls cs) = calls (c ∷ cs)
 
-unfoldable pub listed : List ℕ → Listed
-listed [] = calls []
-listed (code ∷ []) = unlisted
-listed (code ∷ a ∷ []) = unlisted
-listed (code ∷ a ∷ b ∷ []) = unlisted
-listed (code ∷ a ∷ b ∷ c ∷ ns) = then (askedOf code a b c) (listed ns)
+unfoldable pub callList : List ℕ → Listed
+callList [] = calls []
+callList (code ∷ []) = unlisted
+callList (code ∷ a ∷ []) = unlisted
+callList (code ∷ a ∷ b ∷ []) = unlisted
+callList (code ∷ a ∷ b ∷ c ∷ ns) = then (askedOf code a b c) (callList ns)
 
 -- The list of a single call.
 abbrev pub single : List ℕ → Listed
-single ns = cond (eqb (length ns) 4) (listed ns) unlisted
+single ns = cond (eqb (length ns) 4) (callList ns) unlisted
 
 abbrev pub isListed : Listed → Bool
 isListed unlisted = false
@@ -97,12 +99,12 @@ isAsked nothing = false
 isAsked (asked c) = true
 
 -- The call at a place. Where there is none it reads as one that changes nothing.
-abbrev pub called : Asked → Call
-called nothing = Len
-called (asked c) = c
+abbrev pub callIn : Asked → Call
+callIn nothing = Len
+callIn (asked c) = c
 
 abbrev pub askedAt : List ℕ → ℕ → Asked
 askedAt ns at = askedOf (getD ns at 0) (getD ns (at + 1) 0) (getD ns (at + 2) 0) (getD ns (at + 3) 0)
 
-abbrev pub calledAt : List ℕ → ℕ → Call
-calledAt ns at = called (askedAt ns at)
+abbrev pub callAt : List ℕ → ℕ → Call
+callAt ns at = callIn (askedAt ns at)

@@ -1,4 +1,3 @@
-// What the host lends as plain numbers: the state, calls and answers.
 pub mod answers;
 pub mod coding;
 pub mod state;

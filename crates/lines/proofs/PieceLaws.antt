@@ -5,9 +5,9 @@ use Prim.Native.Nat.{ℕ, _+_, _≤_}
 use native.Mathlib.Numerals.{add-one}
 use lib.ListN.{length}
 use lib.Seq.{paste}
+use Rattle.rules.specs.declared.table.Head.{Head}
 use Rattle.rules.specs.Lent.{Table}
 use Rattle.text.specs.Printed.{Printed}
-use Rattle.text.specs.declared.command.Lengths.{Lengths}
 use Rattle.memory.specs.declared.reply.Reply.{Reply}
 use Rattle.lines.specs.Pieces.{Page, placed, printing, Said}
 use Rattle.lines.specs.Replies.{Pieces, each, replyPieces}
@@ -44,9 +44,9 @@ pub saying : {before after : List ℕ} {xs ys : Pieces} {at end : ℕ} → xs �
 saying e p = rw e at p
 
 -- what is printed for a reply, where it is told which one it is
-pub replied : {before after : List ℕ} {at end : ℕ} {r told : Reply} (n : Lengths) (t : Table) (line : ℕ) → r ≡ told
-    → Said before after at (replyPieces n t told line) end → Said before after at (replyPieces n t r line) end
-replied n t line e p = rw e p
+pub replied : {before after : List ℕ} {at end : ℕ} {r told : Reply} (t : Table) (all : Head) (line : ℕ) → r ≡ told
+    → Said before after at (replyPieces t all told line) end → Said before after at (replyPieces t all r line) end
+replied t all line e p = rw e p
 
 -- a buffer keeps its length, and so the room that it has
 pub roomy : {now before : ℕ} → now ≡ before → 256 ≤ before → 256 ≤ now

@@ -1,13 +1,10 @@
 -- Laws of the replies' texts. Assumes nothing.
-use mathlib.Core.List.{List, [], _∷_, _++_}
-use mathlib.Core.Path.{_≡_, refl}
-use Prim.Native.Nat.{ℕ, _-_, _≤_, _<_}
-use native.Mathlib.Omega.{arith}
-use native.Mathlib.Decide.{decLe}
+use mathlib.Core.List.{List, [], _∷_}
+use mathlib.Core.Path.{_≡_, refl, ap}
+use Prim.Native.Nat.{ℕ, _+_, _≤_, _<_}
 use borrow.Author.Tests.{lt-ltb, le-ltb}
 use denote.Enum.Declared.{tagOf}
 use lib.ListN.{length, getD}
-use lib.Seq.{length-take-le, getD-take}
 use types.Run.{OneOf, miss}
 use Rattle.rules.proofs.call.Call.{the-type}
 use Rattle.rules.specs.declared.call.Answer.{Answer}
@@ -29,13 +26,18 @@ use Rattle.rules.specs.declared.call.Call.the-variants.{
   Actions,
   Changes,
 }
-use Rattle.rules.specs.Lent.{Rows, Table}
+use Rattle.rules.specs.declared.table.Head.{Head}
+use Rattle.rules.specs.Lent.{Rows, Log, Table, amountOf}
+use Rattle.rules.specs.Refusal.{Sizes}
 use Rattle.text.specs.Bytes.{bytes}
 use Rattle.text.specs.Printed.{rowText, kindText}
 use Rattle.text.specs.declared.command.Lengths.{Lengths}
 use Rattle.text.specs.declared.print.Cell.{Cell}
 use Rattle.text.specs.declared.print.Cell.the-variants.{Missing, Number}
-use Rattle.memory.specs.Cut.{within, front, mostRows, mostEntries}
+use Rattle.memory.specs.declared.reply.Reply.{Reply}
+use Rattle.memory.specs.declared.reply.Reply.the-variants as reply
+use Rattle.memory.specs.Cut.{lentOf}
+use Rattle.memory.proofs.CutLaws.{Cut, fronts, fronts-lent, cut-sizes}
 use Rattle.lines.specs.Replies.{
   Pieces,
   FEED,
@@ -43,101 +45,86 @@ use Rattle.lines.specs.Replies.{
   sincePieces,
   onward,
   cellAt,
+  both,
   rowPiece,
   lookPieces,
-  memoryPieces,
-  statePieces,
-  livePieces,
-  dumpPieces,
+  shownPieces,
+  allOf,
+  inUse,
+  replyPieces,
+  saidPieces,
 }
 
 -- ---- a lent number
 
--- what is lent goes no farther than its length and than there is, and reaches to the nearer
-reach : (n m : ℕ) → (within n m ≤ n) × (within n m ≤ m) × ((i : ℕ) → i < n → i < m → i < within n m)
-reach n m = go (decLe n m)
-  where
-    go : Dec (n ≤ m) → (within n m ≤ n) × (within n m ≤ m) × ((i : ℕ) → i < n → i < m → i < within n m)
-    go (yes h) = rw (le-ltb m n h) (omega arith, h, λ i a b. a)
-    go (no h) =
-        let g : m < n = omega arith in
-        rw (lt-ltb m n g) (omega arith, omega arith, λ i a b. b)
+module _ (l : List ℕ) (i : ℕ) where
+  pub missing : length l ≤ i → Missing ≡ cellAt l i
+  missing h = rw (le-ltb i (length l) h)
 
-front-length : (n : ℕ) (l : List ℕ) → length (front n l) ≡ within n (length l)
-front-length n l = length-take-le (within n (length l)) l (reach n (length l) .1)
+  pub there : i < length l → Number (getD l i 0) ≡ cellAt l i
+  there h = rw (lt-ltb i (length l) h)
 
-module _ (n : ℕ) (l : List ℕ) (i : ℕ) where
-  pub past-lent : n ≤ i → Missing ≡ cellAt (front n l) i
-  past-lent h = rw (le-ltb i (length (front n l)) (omega (arith, front-length n l, reach n (length l) .0)))
+-- an amount of two words
+module _ (l : List ℕ) (i : ℕ) where
+  pub no-low : length l ≤ i → Missing ≡ both (cellAt l i) (cellAt l (i + 1))
+  no-low h = rw (le-ltb i (length l) h)
 
-  pub past-part : length l ≤ i → Missing ≡ cellAt (front n l) i
-  past-part h = rw (le-ltb i (length (front n l)) (omega (arith, front-length n l, reach n (length l) .1)))
+  module _ (h : i < length l) where
+    pub no-high : length l ≤ i + 1 → Missing ≡ both (cellAt l i) (cellAt l (i + 1))
+    no-high g = rw (lt-ltb i (length l) h, le-ltb (i + 1) (length l) g)
 
-  pub in-lent : i < n → i < length l → Number (getD l i 0) ≡ cellAt (front n l) i
-  in-lent h g =
-      let k : i < within n (length l) = reach n (length l) .2 i h g in
-      rw (lt-ltb i (length (front n l)) (omega (arith, front-length n l)), getD-take (within n (length l)) l i 0 k)
-
--- so many, where all that are asked for are there, and where all that are there are asked for
-pub within-all : (i n most : ℕ) → i ≡ n → n ≤ most → i ≡ within n most
-within-all i n most e h = rw (le-ltb most n h, e)
-
-pub within-there : (i n most : ℕ) → i ≡ most → most ≤ n → i ≡ within n most
-within-there i n most e h = go (decLe n most)
-  where
-    go : Dec (n ≤ most) → i ≡ within n most
-    go (yes g) = within-all i n most (omega arith) g
-    go (no g) =
-        let l : most < n = omega arith in
-        rw (lt-ltb most n l, e)
+    pub both-there : (a : ℕ) → a ≡ amountOf (getD l i 0) (getD l (i + 1) 0) → i + 1 < length l → Number a ≡ both (cellAt l i) (cellAt l (i + 1))
+    both-there a e g = rw (e, lt-ltb i (length l) h, lt-ltb (i + 1) (length l) g)
 
 -- ---- texts of equal numbers
-
-pub kind-said : {a a′ b b′ : Cell} → a ≡ a′ → b ≡ b′ → _≡_ {A = Pieces} (kindText a b ∷ []) (kindText a′ b′ ∷ [])
-kind-said e f = rw (e, f)
 
 pub row-said : {a a′ b b′ c c′ d d′ : Cell} → a ≡ a′ → b ≡ b′ → c ≡ c′ → d ≡ d′
     → _≡_ {A = Pieces} (rowText a b c d ∷ []) (rowText a′ b′ c′ d′ ∷ [])
 row-said e f g h = rw (e, f, g, h)
 
+pub entry-said : {k k′ y y′ a a′ b b′ c c′ d d′ : Cell} → k ≡ k′ → y ≡ y′ → a ≡ a′ → b ≡ b′ → c ≡ c′ → d ≡ d′
+    → _≡_ {A = Pieces} (kindText k y ∷ rowText a b c d ∷ []) (kindText k′ y′ ∷ rowText a′ b′ c′ d′ ∷ [])
+entry-said m n e f g h = rw (m, n, e, f, g, h)
+
 -- ---- replies
 
 -- an answer that no entries follow
-pub no-entries : (t : Table) (call : Call) (a : Answer)
-    → OneOf (0 ∷ 1 ∷ 2 ∷ 3 ∷ 4 ∷ 5 ∷ 6 ∷ 7 ∷ 8 ∷ 9 ∷ 10 ∷ 11 ∷ 12 ∷ 14 ∷ []) (tagOf the-type call) → (f : ℕ → Pieces) → each 0 f ≡ onward t call a
+pub no-entries : (l : Log) (call : Call) (a : Answer)
+    → OneOf (0 ∷ 1 ∷ 2 ∷ 3 ∷ 4 ∷ 5 ∷ 6 ∷ 7 ∷ 8 ∷ 9 ∷ 10 ∷ 11 ∷ 12 ∷ 14 ∷ []) (tagOf the-type call) → sincePieces l 0 0 ≡ onward l call a
 unfolding onward each
-no-entries t (New owner amount) a h f = refl
-no-entries t Len a h f = refl
-no-entries t (Find key) a h f = refl
-no-entries t (Unioned x y) a h f = refl
-no-entries t (Join x y) a h f = refl
-no-entries t (Post key owner amount) a h f = refl
-no-entries t (Probe key) a h f = refl
-no-entries t (ProbeKey key) a h f = refl
-no-entries t (TryProbe key) a h f = refl
-no-entries t Snapshot a h f = refl
-no-entries t (Rollback token) a h f = refl
-no-entries t (Commit token) a h f = refl
-no-entries t (Keys token) a h f = refl
-no-entries t (Changes token) a h f = refl
-no-entries t (Actions token) a h f = absurd (miss (0 ∷ 1 ∷ 2 ∷ 3 ∷ 4 ∷ 5 ∷ 6 ∷ 7 ∷ 8 ∷ 9 ∷ 10 ∷ 11 ∷ 12 ∷ 14 ∷ []) 13 tt h)
+no-entries l (New owner amount) a h = refl
+no-entries l Len a h = refl
+no-entries l (Find key) a h = refl
+no-entries l (Unioned x y) a h = refl
+no-entries l (Join x y) a h = refl
+no-entries l (Post key owner amount) a h = refl
+no-entries l (Probe key) a h = refl
+no-entries l (ProbeKey key) a h = refl
+no-entries l (TryProbe key) a h = refl
+no-entries l Snapshot a h = refl
+no-entries l (Rollback token) a h = refl
+no-entries l (Commit token) a h = refl
+no-entries l (Keys token) a h = refl
+no-entries l (Changes token) a h = refl
+no-entries l (Actions token) a h = absurd (miss (0 ∷ 1 ∷ 2 ∷ 3 ∷ 4 ∷ 5 ∷ 6 ∷ 7 ∷ 8 ∷ 9 ∷ 10 ∷ 11 ∷ 12 ∷ 14 ∷ []) 13 tt h)
 
-pub entries-follow : (t : Table) (call : Call) (a : Answer) (token n : ℕ) → call ≡ Actions token → n ≡ a .to - a .from
-    → each n (sincePieces t token) ≡ onward t call a
+pub entries-follow : (l : Log) (call : Call) (a : Answer) (token : ℕ) → call ≡ Actions token → sincePieces l (a .from) (a .to) ≡ onward l call a
 unfolding onward
-entries-follow t call a token n e k = rw (e, k)
+entries-follow l call a token e = rw e
 
-module _ (n : Lengths) (rs : Rows) (key most : ℕ) (e : most ≡ mostRows n) where
-  pub no-row : most ≤ key → _≡_ {A = Pieces} (bytes "none\n" ∷ []) (lookPieces n rs key)
-  no-row h = rw (le-ltb key (mostRows n) (omega arith))
+module _ (rs : Rows) (rows key : ℕ) where
+  pub no-row : rows ≤ key → _≡_ {A = Pieces} (bytes "none\n" ∷ []) (lookPieces rs rows key)
+  no-row h = rw (le-ltb key rows h)
 
-  pub a-row : key < most → _≡_ {A = Pieces} (bytes "row" ∷ rowPiece rs key ∷ FEED ∷ []) (lookPieces n rs key)
-  a-row h = rw (lt-ltb key (mostRows n) (omega arith))
+  pub a-row : key < rows → _≡_ {A = Pieces} (bytes "row" ∷ rowPiece rs key ∷ FEED ∷ []) (lookPieces rs rows key)
+  a-row h = rw (lt-ltb key rows h)
 
-module _ (n : Lengths) (t : Table) (rows log : ℕ) (r : rows ≡ mostRows n) (l : log ≡ mostEntries n) where
-  pub live-said : (count used : ℕ) → count ≡ within (t .state .count) rows → used ≡ within (t .state .used) log
-      → _≡_ {A = Pieces} (bytes "live rows" ∷ (memoryPieces (t .rows) (t .log) count used ++ statePieces (t .state) (t .state .«open»))) (livePieces n t)
-  live-said count used c u = rw (c, u, r, l)
+-- what is in use, and what is lent with what it reaches
+pub live-said : (t : Table) (all h : Head) (line : ℕ) → h ≡ inUse (t .state) all → shownPieces (bytes "live rows") t h ≡ replyPieces t all reply.Live line
+unfolding replyPieces
+live-said t all h line e = rw e
 
-  pub dump-said : _≡_ {A = Pieces} (bytes "dump rows" ∷ (memoryPieces (t .rows) (t .log) rows log ++ statePieces (t .state) 32)) (dumpPieces n t)
-  dump-said = rw (r, l)
+pub all-said : (n : Lengths) (t : Table) (z : Sizes) → Cut n t z → (all : Head) (r : Reply) (line : ℕ) → all ≡ allOf z
+    → replyPieces (fronts t z) all r line ≡ saidPieces n t r line
+all-said n t z k all r line e =
+    rw (e, fronts-lent n t z k) (ap {B = Pieces} (λ (y : Sizes). replyPieces (lentOf n t) (allOf y) r line) (cut-sizes n t z k))

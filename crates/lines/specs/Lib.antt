@@ -1,3 +1,4 @@
 pub mod Pieces
 pub mod Replies
 pub mod Lines
+pub mod Turn

@@ -1,7 +1,7 @@
 -- The line that each reply prints, piece by piece: CALLS.md, in its order.
 use mathlib.Core.Bool.{cond}
 use mathlib.Core.List.{List, [], _∷_, _++_}
-use Prim.Native.Nat.{ℕ, zero, suc, _-_}
+use Prim.Native.Nat.{ℕ, zero, suc, _+_, _-_, _*_, min}
 use lib.Dec.{ltb}
 use lib.ListN.{length, getD}
 use Rattle.rules.specs.declared.call.Answer.{Answer}
@@ -23,17 +23,20 @@ use Rattle.rules.specs.declared.call.Call.the-variants.{
   Actions,
   Changes,
 }
+use Rattle.rules.specs.declared.table.Head.{Head}
 use Rattle.rules.specs.declared.table.State.{State}
-use Rattle.rules.specs.Lent.{Rows, Log, Table, markAt, numberOf}
-use Rattle.rules.specs.Numbers.{MAX-OPEN}
+use Rattle.rules.specs.Lent.{Rows, Log, Table, head, markAt, numberOf, amountOf}
+use Rattle.rules.specs.Numbers.{CROWN, ENTRY, MAX-OPEN}
+use Rattle.rules.specs.Refusal.{Sizes}
+use Rattle.rules.specs.Tokens.{viewed}
 use Rattle.snapshot_vec.specs.declared.entries.Numbers.{Numbers}
-use Rattle.actions.specs.View.{seen, lentAt}
+use Rattle.actions.specs.View.{lentAt}
 use Rattle.text.specs.Bytes.{bytes}
 use Rattle.text.specs.Printed.{answerText, rowText, kindText, markText, stateText, errorText}
 use Rattle.text.specs.declared.command.Lengths.{Lengths}
 use Rattle.text.specs.declared.print.Cell.{Cell}
 use Rattle.text.specs.declared.print.Cell.the-variants.{Missing, Number}
-use Rattle.memory.specs.Cut.{within, front, lentOf, mostRows, mostEntries}
+use Rattle.memory.specs.Cut.{lentOf, lentSizes, mostRows, mostEntries}
 use Rattle.memory.specs.declared.reply.Reply.{Reply}
 use Rattle.memory.specs.declared.reply.Reply.the-variants as reply
 
@@ -51,76 +54,55 @@ each (suc n) f = each n f ++ f n
 
 -- ---- "Calls"
 
--- " | KIND KEY PARENT RANK OWNER AMOUNT", "the six lent numbers as they stand"
+-- " | KIND KEY PARENT RANK OWNER AMOUNT", "the numbers as they are lent"
 abbrev pub numbersPieces : Numbers → Pieces
 numbersPieces e =
     kindText (Number (e .kind)) (Number (e .key))
     ∷ rowText (Number (e .old .parent)) (Number (e .old .rank)) (Number (numberOf (e .old .owner))) (Number (e .old .amount))
     ∷ []
 
--- an entry since a snapshot, of what is lent
-abbrev pub sincePieces : Table → ℕ → ℕ → Pieces
-sincePieces t token i = numbersPieces (lentAt (seen t token) i)
+-- the entries of the log from one to another, as the view shows them
+abbrev pub sincePieces : Log → ℕ → ℕ → Pieces
+sincePieces l from to = each (to - from) (λ i. numbersPieces (lentAt (viewed l from to) i))
 
--- "`actions` with DONE goes on, oldest entry first": a refusal's range is empty, and so is every other call's
-unfoldable pub onward : Table → Call → Answer → Pieces
-onward t (Actions token) a = each (a .to - a .from) (sincePieces t token)
-onward t (New owner amount) a = []
-onward t Len a = []
-onward t (Find key) a = []
-onward t (Unioned x y) a = []
-onward t (Join x y) a = []
-onward t (Post key owner amount) a = []
-onward t (Probe key) a = []
-onward t (ProbeKey key) a = []
-onward t (TryProbe key) a = []
-onward t Snapshot a = []
-onward t (Rollback token) a = []
-onward t (Commit token) a = []
-onward t (Keys token) a = []
-onward t (Changes token) a = []
+-- "`actions` with DONE goes on, oldest entry first": a refusal's range is empty, and so is what follows every other call
+unfoldable pub onward : Log → Call → Answer → Pieces
+onward l (Actions token) a = sincePieces l (a .from) (a .to)
+onward l (New owner amount) a = []
+onward l Len a = []
+onward l (Find key) a = []
+onward l (Unioned x y) a = []
+onward l (Join x y) a = []
+onward l (Post key owner amount) a = []
+onward l (Probe key) a = []
+onward l (ProbeKey key) a = []
+onward l (TryProbe key) a = []
+onward l Snapshot a = []
+onward l (Rollback token) a = []
+onward l (Commit token) a = []
+onward l (Keys token) a = []
+onward l (Changes token) a = []
 
-abbrev pub answerPieces : Table → Call → Answer → Pieces
-answerPieces t call a = answerText a ∷ (onward t call a ++ (FEED ∷ []))
+abbrev pub answerPieces : Log → Call → Answer → Pieces
+answerPieces l call a = answerText a ∷ (onward l call a ++ (FEED ∷ []))
 
--- ---- "Looking"
+-- ---- "Looking", over what is lent
 
--- of rows and of the log, what is lent
-abbrev pub rowsOf : Lengths → Rows → Rows
-rowsOf n rs =
-    record {
-      parents = front (n .parents) (rs .parents);
-      ranks = front (n .ranks) (rs .ranks);
-      owners = front (n .owners) (rs .owners);
-      amounts = front (n .amounts) (rs .amounts);
-    }
-
--- the lengths of the log's old rows, as those of rows
-abbrev pub oldLengths : Lengths → Lengths
-oldLengths n =
-    record {
-      parents = n .logparents;
-      ranks = n .logranks;
-      owners = n .logowners;
-      amounts = n .logamounts;
-      logkinds = n .logkinds;
-      logkeys = n .logkeys;
-      logparents = n .logparents;
-      logranks = n .logranks;
-      logowners = n .logowners;
-      logamounts = n .logamounts;
-    }
-
-abbrev pub logOf : Lengths → Log → Log
-logOf n l = record { kinds = front (n .logkinds) (l .kinds); keys = front (n .logkeys) (l .keys); old = rowsOf (oldLengths n) (l .old) }
-
--- a lent number; "`-` for what is missing"
+-- a lent number; "`-` for each number that is missing"
 abbrev pub cellAt : List ℕ → ℕ → Cell
 cellAt part i = cond (ltb i (length part)) (Number (getD part i 0)) Missing
 
+-- "of a log's amount, where either of its two words is"
+abbrev pub both : Cell → Cell → Cell
+both Missing high = Missing
+both (Number low) Missing = Missing
+both (Number low) (Number high) = Number (amountOf low high)
+
 -- "PARENT RANK OWNER AMOUNT"
 abbrev pub rowPiece : Rows → ℕ → List ℕ
-rowPiece rs i = rowText (cellAt (rs .parents) i) (cellAt (rs .ranks) i) (cellAt (rs .owners) i) (cellAt (rs .amounts) i)
+rowPiece rs i =
+    let b = i * CROWN in
+    rowText (cellAt (rs .parents) i) (cellAt (rs .crowns) b) (cellAt (rs .crowns) (b + 1)) (cellAt (rs .amounts) i)
 
 -- "| P R O A"
 abbrev pub rowPieces : Rows → ℕ → Pieces
@@ -128,43 +110,49 @@ rowPieces rs i = bytes " |" ∷ rowPiece rs i ∷ []
 
 -- "| KIND KEY P R O A"
 abbrev pub entryPieces : Log → ℕ → Pieces
-entryPieces l i = kindText (cellAt (l .kinds) i) (cellAt (l .keys) i) ∷ rowPiece (l .old) i ∷ []
+entryPieces l i =
+    let b = i * ENTRY in
+    kindText (cellAt l b) (cellAt l (b + 1))
+    ∷ rowText (cellAt l (b + 2)) (cellAt l (b + 3)) (cellAt l (b + 4)) (both (cellAt l (b + 5)) (cellAt l (b + 5 + 1)))
+    ∷ []
 
 -- "| SERIAL LOGLEN KEYS"
 abbrev pub markPieces : State → ℕ → Pieces
 markPieces s i = markText (markAt s i) ∷ []
 
 -- "row PARENT RANK OWNER AMOUNT, or none past what is lent"
-abbrev pub lookPieces : Lengths → Rows → ℕ → Pieces
-lookPieces n rs key = cond (ltb key (mostRows n)) (bytes "row" ∷ rowPiece rs key ∷ FEED ∷ []) (bytes "none\n" ∷ [])
+abbrev pub lookPieces : Rows → ℕ → ℕ → Pieces
+lookPieces rs rows key = cond (ltb key rows) (bytes "row" ∷ rowPiece rs key ∷ FEED ∷ []) (bytes "none\n" ∷ [])
 
--- ".. rows | P R O A | .. log | KIND KEY P R O A | .."
-abbrev pub memoryPieces : Rows → Log → ℕ → ℕ → Pieces
-memoryPieces rs l count used = each count (rowPieces rs) ++ (bytes " log" ∷ each used (entryPieces l))
-
--- ".. state COUNT USED OPEN LAST marks | SERIAL LOGLEN KEYS | .."
-abbrev pub statePieces : State → ℕ → Pieces
-statePieces s n = stateText s ∷ (each (within n MAX-OPEN) (markPieces s) ++ (FEED ∷ []))
-
--- "rows below the count, entries below used, state, open marks"
-abbrev pub livePieces : Lengths → Table → Pieces
-livePieces n t =
+-- ".. rows | P R O A | .. log | KIND KEY P R O A | .. state COUNT USED OPEN LAST marks | SERIAL LOGLEN KEYS | ..": so many of each
+abbrev pub shownPieces : List ℕ → Table → Head → Pieces
+shownPieces name t h =
     let s = t .state in
-    bytes "live rows" ∷ (memoryPieces (t .rows) (t .log) (within (s .count) (mostRows n)) (within (s .used) (mostEntries n)) ++ statePieces s (s .«open»))
-
--- "all rows and entries lent, the state, all 32 marks"
-abbrev pub dumpPieces : Lengths → Table → Pieces
-dumpPieces n t = bytes "dump rows" ∷ (memoryPieces (t .rows) (t .log) (mostRows n) (mostEntries n) ++ statePieces (t .state) MAX-OPEN)
+    name
+    ∷ (each (h .count) (rowPieces (t .rows))
+    ++ (bytes " log" ∷ (each (h .used) (entryPieces (t .log)) ++ (stateText s ∷ (each (min (h .«open») MAX-OPEN) (markPieces s) ++ (FEED ∷ []))))))
 
 -- ---- a line
 
--- the pieces of a reply, over the lengths that are lent of the ten parts and the number of the line
-unfoldable pub replyPieces : Lengths → Table → Reply → ℕ → Pieces
-replyPieces n t reply.Silent line = []
-replyPieces n t reply.Error line = errorText line ∷ []
-replyPieces n t reply.Ok line = bytes "ok\n" ∷ []
-replyPieces n t reply.Table line = bytes "table\n" ∷ []
-replyPieces n t (reply.Answer call a) line = answerPieces (lentOf n t) call a
-replyPieces n t (reply.Row key) line = lookPieces n (lentOf n t .rows) key
-replyPieces n t reply.Live line = livePieces n (lentOf n t)
-replyPieces n t reply.Dump line = dumpPieces n (lentOf n t)
+-- "`dump` goes to the row and entry that the longest reaches", and shows "all 32 marks"
+abbrev pub allOf : Sizes → Head
+allOf z = head (mostRows z) (mostEntries z) MAX-OPEN
+
+-- "rows below the count, entries below used, state, open marks": as far as there are any
+abbrev pub inUse : State → Head → Head
+inUse s all = head (min (s .count) (all .count)) (min (s .used) (all .used)) (s .«open»)
+
+-- The pieces of a reply, over what is lent, all that there is of it and the number of the line.
+unfoldable pub replyPieces : Table → Head → Reply → ℕ → Pieces
+replyPieces t all reply.Silent line = []
+replyPieces t all reply.Error line = errorText line ∷ []
+replyPieces t all reply.Ok line = bytes "ok\n" ∷ []
+replyPieces t all reply.Table line = bytes "table\n" ∷ []
+replyPieces t all (reply.Answer call a) line = answerPieces (t .log) call a
+replyPieces t all (reply.Row key) line = lookPieces (t .rows) (all .count) key
+replyPieces t all reply.Live line = shownPieces (bytes "live rows") t (inUse (t .state) all)
+replyPieces t all reply.Dump line = shownPieces (bytes "dump rows") t all
+
+-- The pieces of a reply, over the lengths that are lent of a memory.
+abbrev pub saidPieces : Lengths → Table → Reply → ℕ → Pieces
+saidPieces n t r line = replyPieces (lentOf n t) (allOf (lentSizes n t)) r line

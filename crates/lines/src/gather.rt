@@ -1,4 +1,6 @@
+ghost use mathlib.Core.List.{List};
 ghost use mathlib.Core.Path.{_≡_};
+ghost use Prim.Native.Nat.{ℕ};
 ghost use lib.ListN.{take, drop};
 ghost use Rattle.lines.specs.Lines.{line as lineOf, reached, keeping, gathering};
 
@@ -40,7 +42,8 @@ pub fn gather(
     from: usize,
     count: usize,
 ) -> Gathered
-    ensures { λ r. ⌜ reached (lineOf (now (line .exit)) (r .n) (r .overlong)) (r .next) (r .ended) ≡ gathering from (lineOf (now (line .entry)) n overlong) (drop from (take count (now (input .entry)))) ⌝ }
+    ensures { λ r. ⌜ reached (lineOf (now (line .exit)) (r .n) (r .overlong)) (r .next) (r .ended)
+        ≡ gathering from (lineOf (now (line .entry)) n overlong) (drop from (take count (now (input .entry)))) ⌝ }
 {
     let mut kept = Kept { n, overlong };
     let mut i = from;
@@ -59,7 +62,8 @@ pub fn gather(
 }
 
 fn gathered_at(kept: Kept, next: usize, ended: bool) -> Gathered
-    ensures { λ r. ⌜ (r .n ≡ kept .n) × (r .overlong ≡ kept .overlong) × (r .next ≡ next) × (r .ended ≡ ended) ⌝ }
+    ensures { λ r. ⌜ ((b : List ℕ) → reached (lineOf b (r .n) (r .overlong)) (r .next) (r .ended)
+        ≡ reached (lineOf b (kept .n) (kept .overlong)) next ended) ⌝ }
 {
     Gathered {
         n: kept.n,

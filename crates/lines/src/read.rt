@@ -1,12 +1,17 @@
-ghost use Prim.Native.Nat.{_≤_};
+ghost use mathlib.Core.List.{List};
+ghost use mathlib.Core.Path.{_≡_};
+ghost use Prim.Native.Nat.{ℕ, _≤_, _<_};
 ghost use lib.ListN.{length};
+ghost use Rattle.rules.specs.Contract.{tableLent};
+ghost use Rattle.lines.specs.Lines.{line, reached};
+ghost use Rattle.lines.specs.Turn.{beginning, filled, took, taking, lineNumber, endsAt, nextLine, replying, answering, turned, turning};
 use crate::gather::Gathered;
 use crate::gather::gather;
 use crate::line::command_of;
 use crate::say::say;
 use memory::change::change;
 use memory::damage::fresh;
-use memory::lent::even;
+use memory::lent::nothing;
 use memory::reply::Changed;
 use rules::table::State;
 use text::command::Lengths;
@@ -26,8 +31,10 @@ pub struct Reading {
 }
 
 // Nothing lent and nothing read.
-pub fn begin() -> Reading {
-    let lengths = even(0, 0);
+pub fn begin() -> Reading
+    ensures { λ r. ⌜ r ≡ beginning ⌝ }
+{
+    let lengths = nothing();
     let state = fresh();
     Reading {
         lengths,
@@ -44,72 +51,72 @@ pub fn begin() -> Reading {
 }
 
 // One turn: more input where there is none at hand, then bytes up to a line's end, and where it is reached, the line's answer.
+// What is read nobody knows before; where some is at hand, nothing is.
 pub fn turn(
     reading: Reading,
     parents: &mut [u32],
-    ranks: &mut [u32],
-    owners: &mut [u32],
+    crowns: &mut [u32],
     amounts: &mut [u64],
-    logkinds: &mut [u32],
-    logkeys: &mut [u32],
-    logparents: &mut [u32],
-    logranks: &mut [u32],
-    logowners: &mut [u32],
-    logamounts: &mut [u64],
+    log: &mut [u32],
     input: &mut [u8],
     line: &mut [u8],
     out: &mut [u8],
 ) -> Reading
     requires { ⌜ 256 ≤ length (now out) ⌝ }
+    ensures { let t = tableLent parents crowns amounts log in
+        λ r. ⌜ turned r (t .exit) (now (line .exit)) (now (out .exit))
+        ≡ turning reading (t .entry) (now (line .entry)) (now (out .entry)) (now (input .exit)) (r .count) ⌝ }
+    ensures { λ r. ⌜ (reading .from < reading .count → now (input .exit) ≡ now (input .entry)) ⌝ }
 {
     let filled = refill(reading, input);
     let got = take(filled, input, line);
     if !got.ended {
         return got;
     }
-    let lengths = got.lengths;
-    let state = got.state;
-    let changed = change(
-        lengths,
-        state,
-        parents,
-        ranks,
-        owners,
-        amounts,
-        logkinds,
-        logkeys,
-        logparents,
-        logranks,
-        logowners,
-        logamounts,
-        command_of(line, got.n, got.overlong),
-    );
+    answer(got, parents, crowns, amounts, log, line, out)
+}
+
+// A line's command carried out, and its reply printed.
+fn answer(
+    reading: Reading,
+    parents: &mut [u32],
+    crowns: &mut [u32],
+    amounts: &mut [u64],
+    log: &mut [u32],
+    line: &[u8],
+    out: &mut [u8],
+) -> Reading
+    requires { ⌜ 256 ≤ length (now out) ⌝ }
+    ensures { let t = tableLent parents crowns amounts log in
+        λ r. ⌜ replying r (t .exit) (now (out .exit)) ≡ answering reading (t .entry) (now (line .entry)) (now (out .entry)) ⌝ }
+{
+    let lengths = reading.lengths;
+    let state = reading.state;
+    let command = command_of(line, reading.n, reading.overlong);
+    let changed = change(lengths, state, parents, crowns, amounts, log, command);
     let after_lengths = changed.lengths;
     let after = changed.state;
     let reply = changed.reply;
     let at = say(
         out,
-        got.at,
+        reading.at,
         after_lengths,
         after,
         parents,
-        ranks,
-        owners,
+        crowns,
         amounts,
-        logkinds,
-        logkeys,
-        logparents,
-        logranks,
-        logowners,
-        logamounts,
+        log,
         reply,
-        got.line,
+        reading.line,
     );
-    next_line(got, changed, at)
+    next_line(reading, changed, at)
 }
 
 // More input, where none is at hand and there is any.
-fn refill(reading: Reading, input: &mut [u8]) -> Reading {
+fn refill(reading: Reading, input: &mut [u8]) -> Reading
+    ensures { λ r. ⌜ r ≡ filled reading (r .count) ⌝ }
+    ensures { λ r. ⌜ (reading .from < reading .count → now (input .exit) ≡ now (input .entry)) ⌝ }
+{
     if reading.from < reading.count {
         return reading;
     }
@@ -123,7 +130,9 @@ fn refill(reading: Reading, input: &mut [u8]) -> Reading {
 }
 
 // Gathers bytes of a line. It ends at a line feed, or with the input, if it has begun.
-fn take(reading: Reading, input: &[u8], line: &mut [u8]) -> Reading {
+fn take(reading: Reading, input: &[u8], line: &mut [u8]) -> Reading
+    ensures { λ r. ⌜ took r (now (line .exit)) ≡ taking reading (now (line .entry)) (now (input .entry)) ⌝ }
+{
     let got = gather(
         line,
         reading.n,
@@ -141,7 +150,9 @@ fn take(reading: Reading, input: &[u8], line: &mut [u8]) -> Reading {
     after
 }
 
-fn ends(more: bool, got: Gathered) -> bool {
+fn ends(more: bool, got: Gathered) -> bool
+    ensures { λ r. ⌜ ((b : List ℕ) → r ≡ endsAt more (reached (line b (got .n) (got .overlong)) (got .next) (got .ended))) ⌝ }
+{
     if more {
         return got.ended;
     }
@@ -149,7 +160,9 @@ fn ends(more: bool, got: Gathered) -> bool {
 }
 
 // The number of a line once it has ended: one more.
-fn line_number(line: u64, ended: bool) -> u64 {
+fn line_number(line: u64, ended: bool) -> u64
+    ensures { λ r. ⌜ r ≡ lineNumber line ended ⌝ }
+{
     if !ended {
         return line;
     }
@@ -160,7 +173,9 @@ fn line_number(line: u64, ended: bool) -> u64 {
 }
 
 // Ready for the next line.
-fn next_line(reading: Reading, changed: Changed, at: usize) -> Reading {
+fn next_line(reading: Reading, changed: Changed, at: usize) -> Reading
+    ensures { λ r. ⌜ r ≡ nextLine reading (changed .lengths) (changed .state) at ⌝ }
+{
     let lengths = changed.lengths;
     let state = changed.state;
     Reading {

@@ -1,172 +1,151 @@
 ghost use mathlib.Core.Path.{_≡_};
 ghost use mathlib.Core.List.{[], _∷_};
-ghost use Prim.Native.Nat.{_≤_, _<_};
+ghost use Prim.Native.Nat.{_+_, _≤_, _<_, min};
 ghost use lib.ListN.{length};
 ghost use Rattle.rules.specs.Contract.{rowsLent, logLent};
-ghost use Rattle.memory.specs.Cut.{front, within};
-ghost use Rattle.text.specs.Bytes.{bytes};
-ghost use Rattle.text.specs.Printed.{kindText};
+ghost use Rattle.text.specs.Printed.{kindText, rowText};
 ghost use Rattle.lines.specs.Pieces.{Said};
-ghost use Rattle.lines.specs.Replies.{each, cellAt, rowsOf, logOf, oldLengths, rowPiece, rowPieces, entryPieces, markPieces};
+ghost use Rattle.lines.specs.Replies.{each, cellAt, both, rowPiece, rowPieces, entryPieces, markPieces};
 use crate::buffer::room;
+use crate::buffer::word;
+use rules::numbers::CROWN;
+use rules::numbers::ENTRY;
 use rules::table::State;
-use text::command::Lengths;
+use snapshot_vec::amounts::amount_of;
 use text::print::Cell;
-use text::print::put_bar;
 use text::print::put_kind;
 use text::print::put_mark;
 use text::print::put_row;
 
-fn wide(number: u32) -> u64
-    ensures { λ r. ⌜ r ≡ number ⌝ }
+// A number that is there.
+pub fn cell(number: u32) -> Cell
+    ensures { λ r. ⌜ r ≡ Cell.Number number ⌝ }
 {
-    number as u64
+    Cell::Number(number as u64)
 }
 
 // What a part has at a place, if that is lent.
-pub fn cell32(part: &[u32], lent: u32, i: u32) -> Cell
-    ensures { λ r. ⌜ r ≡ cellAt (front lent (now (part .entry))) i ⌝ }
+pub fn cell32(part: &[u32], at: usize) -> Cell
+    ensures { λ r. ⌜ r ≡ cellAt (now (part .entry)) at ⌝ }
 {
-    let at = i as usize;
-    if i >= lent {
-        return Cell::Missing;
-    }
     if at >= part.len() {
         return Cell::Missing;
     }
-    Cell::Number(wide(part[at]))
+    cell(part[at])
 }
 
 // The same for amounts.
-pub fn cell64(part: &[u64], lent: u32, i: u32) -> Cell
-    ensures { λ r. ⌜ r ≡ cellAt (front lent (now (part .entry))) i ⌝ }
+pub fn cell64(part: &[u64], at: usize) -> Cell
+    ensures { λ r. ⌜ r ≡ cellAt (now (part .entry)) at ⌝ }
 {
-    let at = i as usize;
-    if i >= lent {
-        return Cell::Missing;
-    }
     if at >= part.len() {
         return Cell::Missing;
     }
     Cell::Number(part[at])
 }
 
+// The amount whose low word the log has at a place, and its high word after it, if both are lent.
+pub fn amount_cell(log: &[u32], at: usize) -> Cell
+    ensures { let l = logLent log in λ r. ⌜ r ≡ both (cellAt (l .entry) at) (cellAt (l .entry) (at + 1)) ⌝ }
+{
+    if at >= log.len() {
+        return Cell::Missing;
+    }
+    let next = at + 1;
+    if next >= log.len() {
+        return Cell::Missing;
+    }
+    Cell::Number(amount_of(log[at], log[next]))
+}
+
 // A row's four numbers.
 pub fn row_cells(
     out: &mut [u8],
     at: usize,
-    lengths: Lengths,
     parents: &[u32],
-    ranks: &[u32],
-    owners: &[u32],
+    crowns: &[u32],
     amounts: &[u64],
     i: u32,
 ) -> usize
     requires { ⌜ 256 ≤ length (now out) ⌝ }
-    ensures { let rs = rowsOf lengths (rowsLent parents ranks owners amounts .entry) in λ r. ⌜ Said (now (out .entry)) (now (out .exit)) at (rowPiece rs i ∷ []) r ⌝ }
+    ensures { let rs = rowsLent parents crowns amounts in λ r. ⌜ Said (now (out .entry)) (now (out .exit)) at (rowPiece (rs .entry) i ∷ []) r ⌝ }
 {
-    let parent = cell32(parents, lengths.parents, i);
-    let rank = cell32(ranks, lengths.ranks, i);
-    let owner = cell32(owners, lengths.owners, i);
-    let amount = cell64(amounts, lengths.amounts, i);
+    let place = i as usize;
+    let base = place * CROWN;
+    let parent = cell32(parents, place);
+    let rank = cell32(crowns, base);
+    let owner = cell32(crowns, base + 1);
+    let amount = cell64(amounts, place);
     let start = room(out, at);
     put_row(out, start, parent, rank, owner, amount)
-}
-
-// A bar.
-pub fn bar(out: &mut [u8], at: usize) -> usize
-    requires { ⌜ 256 ≤ length (now out) ⌝ }
-    ensures { λ r. ⌜ Said (now (out .entry)) (now (out .exit)) at (bytes " |" ∷ []) r ⌝ }
-{
-    let start = room(out, at);
-    put_bar(out, start)
 }
 
 // The first `n` rows, a bar before each.
 pub fn rows(
     out: &mut [u8],
     at: usize,
-    lengths: Lengths,
     parents: &[u32],
-    ranks: &[u32],
-    owners: &[u32],
+    crowns: &[u32],
     amounts: &[u64],
     n: u32,
 ) -> usize
     requires { ⌜ 256 ≤ length (now out) ⌝ }
-    ensures { let rs = rowsOf lengths (rowsLent parents ranks owners amounts .entry) in λ r. ⌜ Said (now (out .entry)) (now (out .exit)) at (each n (rowPieces rs)) r ⌝ }
+    ensures { let rs = rowsLent parents crowns amounts in λ r. ⌜ Said (now (out .entry)) (now (out .exit)) at (each n (rowPieces (rs .entry))) r ⌝ }
 {
     let mut end = at;
     let mut i = 0;
     while i < n {
-        let start = bar(out, end);
-        end = row_cells(out, start, lengths, parents, ranks, owners, amounts, i);
+        let start = word(out, end, b" |");
+        end = row_cells(out, start, parents, crowns, amounts, i);
         i += 1;
     }
     end
 }
 
-// An entry's kind and key, after a bar.
-fn kind_cells(
+// An entry's six numbers, after a bar.
+pub fn put_entry(
     out: &mut [u8],
     at: usize,
-    lengths: Lengths,
-    logkinds: &[u32],
-    logkeys: &[u32],
-    i: u32,
+    kind: Cell,
+    key: Cell,
+    parent: Cell,
+    rank: Cell,
+    owner: Cell,
+    amount: Cell,
 ) -> usize
     requires { ⌜ 256 ≤ length (now out) ⌝ }
-    ensures { λ r. ⌜ Said (now (out .entry)) (now (out .exit)) at (kindText (cellAt (front (lengths .logkinds) (now (logkinds .entry))) i) (cellAt (front (lengths .logkeys) (now (logkeys .entry))) i) ∷ []) r ⌝ }
+    ensures { λ r. ⌜ Said (now (out .entry)) (now (out .exit)) at (kindText kind key ∷ rowText parent rank owner amount ∷ []) r ⌝ }
 {
-    let kind = cell32(logkinds, lengths.logkinds, i);
-    let key = cell32(logkeys, lengths.logkeys, i);
     let start = room(out, at);
-    put_kind(out, start, kind, key)
+    let middle = put_kind(out, start, kind, key);
+    let next = room(out, middle);
+    put_row(out, next, parent, rank, owner, amount)
 }
 
-// The lengths of the log's rows, as those of rows.
-fn old_rows(lengths: Lengths) -> Lengths
-    ensures { λ r. ⌜ r ≡ oldLengths lengths ⌝ }
+// Entry `i` of the log.
+fn entry_cells(out: &mut [u8], at: usize, log: &[u32], i: u32) -> usize
+    requires { ⌜ 256 ≤ length (now out) ⌝ }
+    ensures { let l = logLent log in λ r. ⌜ Said (now (out .entry)) (now (out .exit)) at (entryPieces (l .entry) i) r ⌝ }
 {
-    let mut old = lengths;
-    old.parents = lengths.logparents;
-    old.ranks = lengths.logranks;
-    old.owners = lengths.logowners;
-    old.amounts = lengths.logamounts;
-    old
+    let base = i as usize * ENTRY;
+    let kind = cell32(log, base);
+    let key = cell32(log, base + 1);
+    let parent = cell32(log, base + 2);
+    let rank = cell32(log, base + 3);
+    let owner = cell32(log, base + 4);
+    let amount = amount_cell(log, base + 5);
+    put_entry(out, at, kind, key, parent, rank, owner, amount)
 }
 
 // The first `n` entries, a bar before each.
-pub fn entries(
-    out: &mut [u8],
-    at: usize,
-    lengths: Lengths,
-    logkinds: &[u32],
-    logkeys: &[u32],
-    logparents: &[u32],
-    logranks: &[u32],
-    logowners: &[u32],
-    logamounts: &[u64],
-    n: u32,
-) -> usize
+pub fn entries(out: &mut [u8], at: usize, log: &[u32], n: u32) -> usize
     requires { ⌜ 256 ≤ length (now out) ⌝ }
-    ensures { let l = logOf lengths (logLent logkinds logkeys logparents logranks logowners logamounts .entry) in λ r. ⌜ Said (now (out .entry)) (now (out .exit)) at (each n (entryPieces l)) r ⌝ }
+    ensures { let l = logLent log in λ r. ⌜ Said (now (out .entry)) (now (out .exit)) at (each n (entryPieces (l .entry))) r ⌝ }
 {
-    let old = old_rows(lengths);
     let mut end = at;
     let mut i = 0;
     while i < n {
-        let start = kind_cells(out, end, lengths, logkinds, logkeys, i);
-        end = row_cells(
-            out,
-            start,
-            old,
-            logparents,
-            logranks,
-            logowners,
-            logamounts,
-            i,
-        );
+        end = entry_cells(out, end, log, i);
         i += 1;
     }
     end
@@ -186,7 +165,7 @@ fn one_mark(out: &mut [u8], at: usize, state: State, i: usize) -> usize
 // The first `n` marks, and no more than there are.
 pub fn marks(out: &mut [u8], at: usize, state: State, n: u32) -> usize
     requires { ⌜ 256 ≤ length (now out) ⌝ }
-    ensures { λ r. ⌜ Said (now (out .entry)) (now (out .exit)) at (each (within n 32) (markPieces state)) r ⌝ }
+    ensures { λ r. ⌜ Said (now (out .entry)) (now (out .exit)) at (each (min n 32) (markPieces state)) r ⌝ }
 {
     let mut end = at;
     let mut i = 0;

@@ -8,47 +8,28 @@ use rules::call::Call;
 use rules::table::State;
 use text::command::Lengths;
 
-// A call of the table on what is lent of the ten parts.
+// A call of the table on what is lent of the four parts.
 pub fn call_lent(
     lengths: Lengths,
     state: State,
     parents: &mut [u32],
-    ranks: &mut [u32],
-    owners: &mut [u32],
+    crowns: &mut [u32],
     amounts: &mut [u64],
-    logkinds: &mut [u32],
-    logkeys: &mut [u32],
-    logparents: &mut [u32],
-    logranks: &mut [u32],
-    logowners: &mut [u32],
-    logamounts: &mut [u64],
+    log: &mut [u32],
     call: Call,
 ) -> Changed
-    ensures { let t = tableLent parents ranks owners amounts logkinds logkeys logparents logranks logowners logamounts in
-        λ r. ⌜ left r (t .exit) ≡ called lengths (t .entry state) call ⌝ }
+    ensures { let t = tableLent parents crowns amounts log in λ r. ⌜ left r (t .exit) ≡ called lengths (t .entry state) call ⌝ }
 {
-    let a = lent(lengths.parents, parents.len());
-    let b = lent(lengths.ranks, ranks.len());
-    let c = lent(lengths.owners, owners.len());
-    let d = lent(lengths.amounts, amounts.len());
-    let e = lent(lengths.logkinds, logkinds.len());
-    let f = lent(lengths.logkeys, logkeys.len());
-    let g = lent(lengths.logparents, logparents.len());
-    let h = lent(lengths.logranks, logranks.len());
-    let i = lent(lengths.logowners, logowners.len());
-    let j = lent(lengths.logamounts, logamounts.len());
+    let a = lent(lengths.parents, parents.len()) as usize;
+    let b = lent(lengths.crowns, crowns.len()) as usize;
+    let c = lent(lengths.amounts, amounts.len()) as usize;
+    let d = lent(lengths.log, log.len()) as usize;
     let answered = unify::calls::call(
         state,
         &mut parents[..a],
-        &mut ranks[..b],
-        &mut owners[..c],
-        &mut amounts[..d],
-        &mut logkinds[..e],
-        &mut logkeys[..f],
-        &mut logparents[..g],
-        &mut logranks[..h],
-        &mut logowners[..i],
-        &mut logamounts[..j],
+        &mut crowns[..b],
+        &mut amounts[..c],
+        &mut log[..d],
         call,
     );
     let answer = answered.answer;

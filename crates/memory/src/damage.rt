@@ -1,151 +1,190 @@
+// What the commands for tests do, and the lending of other lengths.
+ghost use mathlib.Core.Path.{_≡_};
+ghost use Rattle.rules.specs.Contract.{rowsLent, logLent, tableLent};
+ghost use Rattle.rules.specs.Lent.{Rows, Log, table, fresh};
+ghost use Rattle.text.specs.declared.command.Command.the-variants as command;
+ghost use Rattle.memory.specs.Cut.{left};
+ghost use Rattle.memory.specs.Commands.{lentLeft, changed};
+use crate::lent::MOST_ENTRIES;
+use crate::lent::MOST_ROWS;
+use crate::lent::lent;
+use crate::lent::most_entries;
+use crate::lent::most_rows;
+use crate::lent::nothing;
+use crate::lent::room_for;
+use crate::put::clear32;
+use crate::put::clear64;
+use crate::put::put_amount;
+use crate::put::put_numbers;
 use crate::reply::Changed;
 use crate::reply::Reply;
+use crate::reply::done;
+use crate::reply::leaving;
+use rules::numbers::CROWN;
+use rules::numbers::ENTRY;
 use rules::table::Mark;
 use rules::table::State;
+use snapshot_vec::amounts::high_of;
+use snapshot_vec::amounts::low_of;
 use text::command::Lengths;
 use text::command::RowNumbers;
 
-// Puts a number at a place of a part, if that is lent.
-pub fn put32(part: &mut [u32], length: u32, i: u32, number: u32) {
-    let at = i as usize;
-    if i < length {
-        if at < part.len() {
-            part[at] = number;
-        }
+// Other lengths that a command asks for, with the state and the reply that they leave. What lies from an old length up to the
+// new one becomes 0: for a fresh table all of it.
+pub struct Lending {
+    pub room: bool,
+    pub old: Lengths,
+    pub new: Lengths,
+    pub state: State,
+    pub reply: Reply,
+}
+
+// Those of a fresh table of so many rows and entries.
+pub fn fresh_table(rows: u32, entries: u32) -> Lending
+    ensures { λ r. ⌜ ((n : Lengths) (rs : Rows) (l : Log) (s : State) → lentLeft n (table rs l s) r ≡ changed n (table rs l s) (command.Table rows entries)) ⌝ }
+{
+    let old = nothing();
+    let state = fresh();
+    let reply = Reply::Table;
+    if rows > MOST_ROWS {
+        return Lending {
+            room: false,
+            old,
+            new: old,
+            state,
+            reply,
+        };
+    }
+    if entries > MOST_ENTRIES {
+        return Lending {
+            room: false,
+            old,
+            new: old,
+            state,
+            reply,
+        };
+    }
+    let new = Lengths {
+        parents: rows,
+        crowns: rows * 2,
+        amounts: rows,
+        log: entries * 7,
+    };
+    Lending {
+        room: true,
+        old,
+        new,
+        state,
+        reply,
     }
 }
 
-// The same for amounts.
-pub fn put64(part: &mut [u64], length: u32, i: u32, number: u64) {
-    let at = i as usize;
-    if i < length {
-        if at < part.len() {
-            part[at] = number;
-        }
+// Those that `lend` names.
+pub fn other_lengths(lengths: Lengths, state: State, new: Lengths) -> Lending
+    ensures { λ r. ⌜ ((rs : Rows) (l : Log) → lentLeft lengths (table rs l state) r ≡ changed lengths (table rs l state) (command.Lend new)) ⌝ }
+{
+    let room = room_for(new);
+    Lending {
+        room,
+        old: lengths,
+        new,
+        state,
+        reply: Reply::Ok,
     }
 }
 
-// Puts a row's numbers where they are lent.
+// Lends other lengths; an error where there is no room.
+pub fn lend(
+    lengths: Lengths,
+    state: State,
+    parents: &mut [u32],
+    crowns: &mut [u32],
+    amounts: &mut [u64],
+    log: &mut [u32],
+    lending: Lending,
+) -> Changed
+    ensures { let t = tableLent parents crowns amounts log in λ r. ⌜ left r (t .exit) ≡ lentLeft lengths (t .entry state) lending ⌝ }
+{
+    if !lending.room {
+        return leaving(lengths, state, Reply::Error);
+    }
+    let old = lending.old;
+    let new = lending.new;
+    clear32(parents, old.parents, new.parents);
+    clear32(crowns, old.crowns, new.crowns);
+    clear64(amounts, old.amounts, new.amounts);
+    clear32(log, old.log, new.log);
+    let after = lending.state;
+    let reply = lending.reply;
+    leaving(new, after, reply)
+}
+
+// Puts a row's numbers where they are lent; an error where no part has a place for one.
 pub fn set_row(
     lengths: Lengths,
+    state: State,
     parents: &mut [u32],
-    ranks: &mut [u32],
-    owners: &mut [u32],
+    crowns: &mut [u32],
     amounts: &mut [u64],
     key: u32,
     row: RowNumbers,
-) {
-    put32(parents, lengths.parents, key, row.parent);
-    put32(ranks, lengths.ranks, key, row.rank);
-    put32(owners, lengths.owners, key, row.owner);
-    put64(amounts, lengths.amounts, key, row.amount);
+) -> Changed
+    ensures { let rs = rowsLent parents crowns amounts in
+        λ r. ⌜ ((l : Log) → left r (table (rs .exit) l) ≡ changed lengths (table (rs .entry) l state) (command.SetRow key row)) ⌝ }
+{
+    let a = lent(lengths.parents, parents.len());
+    let b = lent(lengths.crowns, crowns.len());
+    let c = lent(lengths.amounts, amounts.len());
+    let reply = done(key < most_rows(a, b, c));
+    let at = key as usize;
+    let parent = [row.parent];
+    let crown = [row.rank, row.owner];
+    put_numbers(parents, lengths.parents, at, &parent);
+    put_numbers(crowns, lengths.crowns, at * CROWN, &crown);
+    put_amount(amounts, lengths.amounts, at, row.amount);
+    leaving(lengths, state, reply)
 }
 
-// Puts an entry's numbers where they are lent.
+// Puts an entry's numbers where they are lent; an error where the log has a place for none.
 pub fn set_entry(
     lengths: Lengths,
-    logkinds: &mut [u32],
-    logkeys: &mut [u32],
-    logparents: &mut [u32],
-    logranks: &mut [u32],
-    logowners: &mut [u32],
-    logamounts: &mut [u64],
+    state: State,
+    log: &mut [u32],
     i: u32,
     kind: u32,
     key: u32,
     row: RowNumbers,
-) {
-    put32(logkinds, lengths.logkinds, i, kind);
-    put32(logkeys, lengths.logkeys, i, key);
-    put32(logparents, lengths.logparents, i, row.parent);
-    put32(logranks, lengths.logranks, i, row.rank);
-    put32(logowners, lengths.logowners, i, row.owner);
-    put64(logamounts, lengths.logamounts, i, row.amount);
-}
-
-// A part set to 0 from one place up to another.
-pub fn clear32(part: &mut [u32], from: u32, to: u32) {
-    let end = to as usize;
-    let mut i = from as usize;
-    while i < end {
-        if i >= part.len() {
-            return;
-        }
-        part[i] = 0;
-        i += 1;
-    }
-}
-
-// The same for amounts.
-pub fn clear64(part: &mut [u64], from: u32, to: u32) {
-    let end = to as usize;
-    let mut i = from as usize;
-    while i < end {
-        if i >= part.len() {
-            return;
-        }
-        part[i] = 0;
-        i += 1;
-    }
-}
-
-// What is newly lent of the rows is 0.
-pub fn clear_rows(
-    old: Lengths,
-    new: Lengths,
-    parents: &mut [u32],
-    ranks: &mut [u32],
-    owners: &mut [u32],
-    amounts: &mut [u64],
-) {
-    clear32(parents, old.parents, new.parents);
-    clear32(ranks, old.ranks, new.ranks);
-    clear32(owners, old.owners, new.owners);
-    clear64(amounts, old.amounts, new.amounts);
-}
-
-// What is newly lent of the log is 0.
-pub fn clear_log(
-    old: Lengths,
-    new: Lengths,
-    logkinds: &mut [u32],
-    logkeys: &mut [u32],
-    logparents: &mut [u32],
-    logranks: &mut [u32],
-    logowners: &mut [u32],
-    logamounts: &mut [u64],
-) {
-    clear32(logkinds, old.logkinds, new.logkinds);
-    clear32(logkeys, old.logkeys, new.logkeys);
-    clear32(logparents, old.logparents, new.logparents);
-    clear32(logranks, old.logranks, new.logranks);
-    clear32(logowners, old.logowners, new.logowners);
-    clear64(logamounts, old.logamounts, new.logamounts);
+) -> Changed
+    ensures { let l = logLent log in
+        λ r. ⌜ ((rs : Rows) → left r (table rs (l .exit)) ≡ changed lengths (table rs (l .entry) state) (command.SetEntry i kind key row)) ⌝ }
+{
+    let reply = done(i < most_entries(lent(lengths.log, log.len())));
+    let low = low_of(row.amount);
+    let high = high_of(row.amount);
+    let numbers = [kind, key, row.parent, row.rank, row.owner, low, high];
+    put_numbers(log, lengths.log, i as usize * ENTRY, &numbers);
+    leaving(lengths, state, reply)
 }
 
 // The state with one mark changed.
-pub fn set_mark(lengths: Lengths, state: State, i: u32, mark: Mark) -> Changed {
+pub fn set_mark(lengths: Lengths, state: State, i: u32, mark: Mark) -> Changed
+    ensures { λ r. ⌜ ((rs : Rows) (l : Log) → left r (table rs l) ≡ changed lengths (table rs l state) (command.SetMark i mark)) ⌝ }
+{
     let at = i as usize;
     if at >= 32 {
-        return Changed {
-            lengths,
-            state,
-            reply: Reply::Error,
-        };
+        return leaving(lengths, state, Reply::Error);
     }
     let mut marks = state.marks;
     marks[at] = mark;
     let mut after = state;
     after.marks = marks;
-    Changed {
-        lengths,
-        state: after,
-        reply: Reply::Ok,
-    }
+    leaving(lengths, after, Reply::Ok)
 }
 
 // The state of a fresh table.
-pub fn fresh() -> State {
+pub fn fresh() -> State
+    ensures { λ r. ⌜ r ≡ fresh ⌝ }
+{
     let mark = Mark {
         serial: 0,
         log_len: 0,
@@ -168,7 +207,9 @@ pub fn set_state(
     used: u32,
     open: u32,
     last: u64,
-) -> Changed {
+) -> Changed
+    ensures { λ r. ⌜ ((rs : Rows) (l : Log) → left r (table rs l) ≡ changed lengths (table rs l state) (command.SetState count used «open» last)) ⌝ }
+{
     let marks = state.marks;
     let after = State {
         count,
@@ -177,9 +218,5 @@ pub fn set_state(
         last,
         marks,
     };
-    Changed {
-        lengths,
-        state: after,
-        reply: Reply::Ok,
-    }
+    leaving(lengths, after, Reply::Ok)
 }

@@ -1,43 +1,33 @@
 ghost use mathlib.Core.Path.{_≡_};
-ghost use Prim.Native.Nat.{_≤_};
-ghost use Rattle.memory.specs.Cut.{within, larger as most, mostRows, mostEntries};
+ghost use Prim.Native.Nat.{ℕ, min, max};
+ghost use Rattle.rules.specs.Numbers.{ENTRY};
+ghost use Rattle.rules.specs.Refusal.{sizes};
+ghost use Rattle.memory.specs.Cut.{touched, mostRows};
+ghost use Rattle.memory.specs.Commands.{nothing, roomFor};
 use text::command::Lengths;
 
-// The most rows and entries that can be lent.
+// The most rows and entries that can be lent, and their numbers: `crowns` has two to a row, the log seven to an entry.
 pub const MOST_ROWS: u32 = 65600;
+
+pub const MOST_CROWNS: u32 = 131200;
 
 pub const MOST_ENTRIES: u32 = 131072;
 
+pub const MOST_LOG: u32 = 917504;
+
 // How much of a part is lent: never more than there is.
-pub fn lent(length: u32, most: usize) -> usize
-    ensures { λ r. ⌜ r ≡ within length most ⌝ }
-    ensures { λ r. ⌜ r ≤ most ⌝ }
+pub fn lent(length: u32, most: usize) -> u32
+    ensures { λ r. ⌜ r ≡ min length most ⌝ }
 {
-    let wanted = length as usize;
-    if wanted > most {
-        return most;
+    if length as usize > most {
+        return most as u32;
     }
-    wanted
+    length
 }
 
-// Every part of the rows with one length, every part of the log with another.
-pub fn even(rows: u32, log: u32) -> Lengths {
-    Lengths {
-        parents: rows,
-        ranks: rows,
-        owners: rows,
-        amounts: rows,
-        logkinds: log,
-        logkeys: log,
-        logparents: log,
-        logranks: log,
-        logowners: log,
-        logamounts: log,
-    }
-}
-
-fn larger(a: u32, b: u32) -> u32
-    ensures { λ r. ⌜ r ≡ most a b ⌝ }
+// The longer of two.
+fn longer(a: u32, b: u32) -> u32
+    ensures { λ r. ⌜ r ≡ max a b ⌝ }
 {
     if a < b {
         return b;
@@ -45,42 +35,48 @@ fn larger(a: u32, b: u32) -> u32
     a
 }
 
-// The longest of the rows' parts.
-pub fn longest_rows(lengths: Lengths) -> u32
-    ensures { λ r. ⌜ r ≡ mostRows lengths ⌝ }
+// How many rows the longest of the rows' parts reaches, wholly or not.
+pub fn most_rows(parents: u32, crowns: u32, amounts: u32) -> u32
+    ensures { λ r. ⌜ ((log : ℕ) → r ≡ mostRows (sizes parents crowns amounts log)) ⌝ }
 {
-    let first = larger(lengths.parents, lengths.ranks);
-    let second = larger(lengths.owners, lengths.amounts);
-    larger(first, second)
+    let crowned = crowns / 2 + crowns % 2;
+    longer(longer(parents, amounts), crowned)
 }
 
-// The longest of the log's parts.
-pub fn longest_log(lengths: Lengths) -> u32
-    ensures { λ r. ⌜ r ≡ mostEntries lengths ⌝ }
+// How many entries the log reaches, wholly or not.
+pub fn most_entries(log: u32) -> u32
+    ensures { λ r. ⌜ r ≡ touched log ENTRY ⌝ }
 {
-    let first = larger(lengths.logkinds, lengths.logkeys);
-    let second = larger(lengths.logparents, lengths.logranks);
-    let third = larger(lengths.logowners, lengths.logamounts);
-    larger(first, larger(second, third))
-}
-
-// How many rows or entries `live` shows: those in use that are lent at all.
-pub fn in_use(number: u32, longest: u32) -> u32
-    ensures { λ r. ⌜ r ≡ within number longest ⌝ }
-{
-    if longest < number {
-        return longest;
+    if log % 7 == 0 {
+        return log / 7;
     }
-    number
+    log / 7 + 1
+}
+
+// Nothing is lent.
+pub fn nothing() -> Lengths
+    ensures { λ r. ⌜ r ≡ nothing ⌝ }
+{
+    Lengths {
+        parents: 0,
+        crowns: 0,
+        amounts: 0,
+        log: 0,
+    }
 }
 
 // Whether there is room for such lengths.
-pub fn possible(lengths: Lengths) -> bool {
-    if longest_rows(lengths) > MOST_ROWS {
+pub fn room_for(lengths: Lengths) -> bool
+    ensures { λ r. ⌜ r ≡ roomFor lengths ⌝ }
+{
+    if lengths.parents > MOST_ROWS {
         return false;
     }
-    if longest_log(lengths) > MOST_ENTRIES {
+    if lengths.crowns > MOST_CROWNS {
         return false;
     }
-    true
+    if lengths.amounts > MOST_ROWS {
+        return false;
+    }
+    lengths.log <= MOST_LOG
 }

@@ -1,3 +1,7 @@
+ghost use mathlib.Core.Path.{_≡_};
+ghost use Rattle.rules.specs.Lent.{Table};
+ghost use Rattle.memory.specs.Cut.{left, leaving};
+ghost use Rattle.memory.specs.Commands.{doneWhere};
 use rules::call::Answer;
 use rules::call::Call;
 use rules::table::State;
@@ -23,9 +27,22 @@ pub struct Changed {
 }
 
 // `ok`, or an error where nothing could be done.
-pub fn done(all_right: bool) -> Reply {
-    if all_right {
+pub fn done(fine: bool) -> Reply
+    ensures { λ r. ⌜ r ≡ doneWhere fine ⌝ }
+{
+    if fine {
         return Reply::Ok;
     }
     Reply::Error
+}
+
+// A reply, with the lengths and the state that it leaves.
+pub fn leaving(lengths: Lengths, state: State, reply: Reply) -> Changed
+    ensures { λ r. ⌜ ((t : State → Table) → left r t ≡ leaving reply lengths (t state)) ⌝ }
+{
+    Changed {
+        lengths,
+        state,
+        reply,
+    }
 }

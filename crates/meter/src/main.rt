@@ -9,15 +9,9 @@ use lines::read::turn;
 // uses up.
 fn work(
     parents: &mut [u32],
-    ranks: &mut [u32],
-    owners: &mut [u32],
+    crowns: &mut [u32],
     amounts: &mut [u64],
-    logkinds: &mut [u32],
-    logkeys: &mut [u32],
-    logparents: &mut [u32],
-    logranks: &mut [u32],
-    logowners: &mut [u32],
-    logamounts: &mut [u64],
+    log: &mut [u32],
     input: &mut [u8],
     line: &mut [u8],
     out: &mut [u8],
@@ -30,22 +24,7 @@ fn work(
         if !reading.more {
             break;
         }
-        reading = turn(
-            reading,
-            parents,
-            ranks,
-            owners,
-            amounts,
-            logkinds,
-            logkeys,
-            logparents,
-            logranks,
-            logowners,
-            logamounts,
-            input,
-            line,
-            out,
-        );
+        reading = turn(reading, parents, crowns, amounts, log, input, line, out);
         turns -= 1;
     }
     flush(out, reading.at);
@@ -54,29 +33,17 @@ fn work(
 // The memory that is lent: as much as a stack of 8 MiB holds with room to spare.
 fn main() {
     let mut parents = [0u32; 65600];
-    let mut ranks = [0u32; 65600];
-    let mut owners = [0u32; 65600];
+    let mut crowns = [0u32; 131200];
     let mut amounts = [0u64; 65600];
-    let mut logkinds = [0u32; 131072];
-    let mut logkeys = [0u32; 131072];
-    let mut logparents = [0u32; 131072];
-    let mut logranks = [0u32; 131072];
-    let mut logowners = [0u32; 131072];
-    let mut logamounts = [0u64; 131072];
+    let mut log = [0u32; 917504];
     let mut input = io::large_buffer();
     let mut line = io::large_buffer();
     let mut out = io::large_buffer();
     work(
         &mut parents,
-        &mut ranks,
-        &mut owners,
+        &mut crowns,
         &mut amounts,
-        &mut logkinds,
-        &mut logkeys,
-        &mut logparents,
-        &mut logranks,
-        &mut logowners,
-        &mut logamounts,
+        &mut log,
         &mut input,
         &mut line,
         &mut out,

@@ -1,63 +1,89 @@
--- A plan as the code has it: the answer, the walks that are rewritten, and what is written at the roots.
+-- A call's plan as the code has it, made of where its walks lead: what the rules make of the same walks.
 use mathlib.Core.Path.{_≡_}
-use mathlib.Core.Bool.{cond}
+use mathlib.Core.Bool.{Bool, false, cond}
 use mathlib.Core.List.{List, [], _∷_, _++_}
-use Prim.Native.Nat.{ℕ, _+_, _<_}
-use lib.Dec.{ltb}
+use Prim.Native.Nat.{ℕ, _+_, _-_, _<_}
+use lib.ListN.{length}
+use lib.Dec.{eqb, ltb}
+use Rattle.rules.specs.declared.table.Row.{Row}
 use Rattle.rules.specs.declared.table.Value.{Value}
-use Rattle.rules.specs.declared.call.Answer.{Answer}
-use Rattle.rules.specs.declared.call.Call.{Call}
-use Rattle.rules.specs.declared.call.Call.the-variants as call
-use Rattle.rules.specs.Numbers.{BROKEN-TABLE}
-use Rattle.rules.specs.Lent.{Rows, value, ownerOf, rowAt, valueOf}
+use Rattle.rules.specs.Numbers.{LOG-FULL}
+use Rattle.rules.specs.Lent.{Rows, value, ownerOf, rowAt}
 use Rattle.rules.specs.Answer.{refusal}
-use Rattle.rules.specs.Merge.{merge}
 use Rattle.rules.specs.Write.{Write, redirect, crown}
-use Rattle.rules.specs.Plan.{Plan, plan, walk, walkBoth, rewrites, settle, unite, tooHigh, findOn, unionedOn, joinOn, postOn, probeOn, probeKeyOn, tryProbe}
-use Rattle.roots.specs.declared.path.Trail.{Trail}
-use Rattle.roots.specs.Trail.{rootOf, passedOf, compressed}
-use Rattle.plans.specs.declared.walks.Walks.{Walks}
-use Rattle.plans.specs.declared.plan.Finish.{Finish}
-use Rattle.plans.specs.declared.plan.Finish.the-variants.{Nothing, Crown, Unite}
-use Rattle.plans.specs.declared.plan.Todo.{Todo}
-use Rattle.plans.specs.declared.rows.RowCall.{RowCall}
-use Rattle.plans.specs.declared.rows.RowCall.the-variants.{Find, Unioned, Join, Post, Probe, ProbeKey, TryProbe}
-use Rattle.plans.specs.Walks.{Sound, Walkable, ifLive, ifBothLive}
+use Rattle.rules.specs.Plan.{Plan, plan, Walked, findOn, unionedOn, joinOn, postOn, probeOn, probeKeyOn}
+use Rattle.roots.specs.Saves.{withParents}
+use Rattle.plans.specs.declared.verdict.Finish.{Finish}
+use Rattle.plans.specs.declared.verdict.Finish.the-variants.{Nothing, Crown, Unite}
+use Rattle.plans.specs.declared.verdict.Verdict.{Verdict}
+use Rattle.plans.specs.declared.verdict.Verdict.the-variants.{Refused, Planned}
+use Rattle.plans.specs.declared.verdict.OneCall.{OneCall}
+use Rattle.plans.specs.declared.verdict.OneCall.the-variants.{Find, Probe, ProbeKey, Post}
+use Rattle.plans.specs.declared.verdict.TwoCall.{TwoCall}
+use Rattle.plans.specs.declared.verdict.TwoCall.the-variants.{Unioned, Join}
 
-abbrev pub todo : Answer → Walks → Finish → Todo
-todo a w f = record { answer = a; first = w .first; second = w .second; finish = f }
+-- ---- what is written
 
--- What is written at the roots, after the walks.
+-- At the roots, after the walks.
 abbrev pub finishOf : Finish → List Write
 finishOf Nothing = []
 finishOf (Crown key rank v) = crown key rank v ∷ []
 finishOf (Unite old new rank v) = redirect old new ∷ crown new rank v ∷ []
 
-abbrev pub walkOf : Trail → List Write
-walkOf t = rewrites (rootOf t) (passedOf t)
+-- The walks' writes, and those at the roots.
+abbrev pub andThen : List Write → Finish → List Write
+andThen walked Nothing = walked
+andThen walked (Crown key rank v) = walked ++ (crown key rank v ∷ [])
+andThen walked (Unite old new rank v) = walked ++ (redirect old new ∷ crown new rank v ∷ [])
 
-abbrev pub todoOf : Todo → List Write
-todoOf p = (walkOf (p .first) ++ walkOf (p .second)) ++ finishOf (p .finish)
-
-abbrev pub planOf : Todo → Plan
-planOf p = plan (p .answer) (todoOf p)
+-- The rules' plan that a verdict stands for.
+abbrev pub planOf : List Write → Verdict → Plan
+planOf walked (Refused n) = plan (refusal n) []
+planOf walked (Planned a f) = plan a (andThen walked f)
 
 -- The roots that are written are rows.
-abbrev pub Inside : ℕ → Finish → Type 0
-Inside count Nothing = Unit {0}
-Inside count (Crown key rank v) = key < count
-Inside count (Unite old new rank v) = (old < count) × (new < count)
+abbrev pub InsideEnd : ℕ → Finish → Type 0
+InsideEnd count Nothing = Unit {0}
+InsideEnd count (Crown key rank v) = key < count
+InsideEnd count (Unite old new rank v) = (old < count) × (new < count)
 
--- The walks can be made, and the roots are rows.
-pub record Doable (rs : Rows) (count : ℕ) (p : Todo) : Type 0 where
-  pub first : Sound (rs .parents) count (p .first)
-  pub second : Sound (compressed (p .first) (rs .parents)) count (p .second)
-  pub finish : Inside count (p .finish)
+abbrev pub Inside : ℕ → Verdict → Type 0
+Inside count (Refused n) = Unit {0}
+Inside count (Planned a f) = InsideEnd count f
 
--- A plan that can be carried out, and is this one.
-pub record Planned (rs : Rows) (count : ℕ) (p : Todo) (q : Plan) : Type 0 where
-  pub is : planOf p ≡ q
-  pub doable : Doable rs count p
+-- ---- what a call makes of its walks
+
+-- A walk that ended at a root after so many steps. It rewrote parents alone.
+abbrev pub walkedTo : Rows → ℕ → ℕ → List ℕ → List Write → Walked
+walkedTo rs root s ps ws = record { root = root; steps = s; todo = ws; rows = withParents rs ps }
+
+abbrev pub oneOn : OneCall → Walked → Plan
+oneOn Find = findOn
+oneOn Probe = probeOn
+oneOn ProbeKey = probeKeyOn
+oneOn (Post owner amount) = postOn (value (ownerOf owner) amount)
+
+abbrev pub twoOn : TwoCall → Walked → Walked → Plan
+twoOn Unioned = unionedOn
+twoOn Join = joinOn
+
+-- Whatever the walks wrote, the verdict is the rules' plan.
+abbrev pub MadeOfOne : Rows → OneCall → ℕ → ℕ → Verdict → Type 0
+MadeOfOne rs c root s v = (ps : List ℕ) (ws : List Write) → planOf ws v ≡ oneOn c (walkedTo rs root s ps ws)
+
+abbrev pub MadeOfTwo : Rows → TwoCall → ℕ → ℕ → ℕ → Verdict → Type 0
+MadeOfTwo rs c a b s v =
+    (ps ps′ : List ℕ) (ws ws′ : List Write) (sa sb : ℕ) → sa + sb ≡ s
+    → planOf (ws ++ ws′) v ≡ twoOn c (walkedTo rs a sa ps ws) (walkedTo rs b sb ps′ ws′)
+
+-- A post at a root's row, and a join of two roots' rows.
+abbrev pub Posted : Row → ℕ → ℕ → Value → Verdict → Type 0
+Posted held root s w v =
+    (rs : Rows) → held ≡ rowAt rs root → (ps : List ℕ) (ws : List Write) → planOf ws v ≡ postOn w (walkedTo rs root s ps ws)
+
+abbrev pub Joined : ℕ → Row → ℕ → Row → ℕ → Verdict → Type 0
+Joined a row-a b row-b s v =
+    (a ≡ b → ⊥) → (rs : Rows) → row-a ≡ rowAt rs a → row-b ≡ rowAt rs b → MadeOfTwo rs Join a b s v
 
 -- The roots united by their ranks, as `Plan.unite` has it.
 abbrev pub united : ℕ → ℕ → ℕ → ℕ → Value → List Write
@@ -66,33 +92,12 @@ united a ra b rb v =
     (cond (ltb ra rb) (redirect a b ∷ crown b rb v ∷ [])
     (redirect a b ∷ crown b (rb + 1) v ∷ []))
 
--- What two different roots come to after the walks, as `Plan.joinOn` has it.
-abbrev pub joined : Rows → List Write → ℕ → ℕ → ℕ → Plan
-joined rs walked a b s =
-    cond (tooHigh rs a b) (plan (refusal BROKEN-TABLE) [])
-    (settle walked s (unite rs a b) (merge (valueOf (rowAt rs a)) (valueOf (rowAt rs b))))
+-- ---- room in the log
 
-pub record Joined (rs : Rows) (count : ℕ) (w : Walks) (a b s : ℕ) (p : Todo) : Type 0 where
-  pub is : planOf p ≡ joined rs (walkOf (w .first) ++ walkOf (w .second)) a b s
-  pub doable : Walkable rs count w → Doable rs count p
+-- LOG_FULL: "a snapshot is open and the entries this call would log exceed the free ones", as `Write.full` has it.
+abbrev pub lacks : ℕ → ℕ → ℕ → ℕ → Bool
+lacks opened used room n = cond (eqb opened 0) false (ltb (room - used) n)
 
--- ---- the calls on rows
-
-abbrev pub callOf : RowCall → Call
-callOf (Find key) = call.Find key
-callOf (Unioned a b) = call.Unioned a b
-callOf (Join a b) = call.Join a b
-callOf (Post key owner amount) = call.Post key owner amount
-callOf (Probe key) = call.Probe key
-callOf (ProbeKey key) = call.ProbeKey key
-callOf (TryProbe key) = call.TryProbe key
-
--- The plan of each, NO_KEY too.
-abbrev pub rowPlan : Rows → ℕ → RowCall → Plan
-rowPlan rs count (Find key) = ifLive count key (walk rs count key findOn)
-rowPlan rs count (Unioned a b) = ifBothLive count a b (walkBoth rs count a b unionedOn)
-rowPlan rs count (Join a b) = ifBothLive count a b (walkBoth rs count a b joinOn)
-rowPlan rs count (Post key owner amount) = ifLive count key (walk rs count key (postOn (value (ownerOf owner) amount)))
-rowPlan rs count (Probe key) = ifLive count key (walk rs count key probeOn)
-rowPlan rs count (ProbeKey key) = ifLive count key (walk rs count key probeKeyOn)
-rowPlan rs count (TryProbe key) = ifLive count key (tryProbe rs key)
+abbrev pub fitted : ℕ → ℕ → ℕ → ℕ → Verdict → Verdict
+fitted opened used room walked (Refused n) = Refused n
+fitted opened used room walked (Planned a f) = cond (lacks opened used room (walked + length (finishOf f))) (Refused LOG-FULL) (Planned a f)

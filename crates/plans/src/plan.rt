@@ -1,65 +1,93 @@
 ghost use mathlib.Core.Path.{_≡_};
-ghost use mathlib.Core.List.{[]};
 ghost use Prim.Native.Nat.{ℕ, _≤_, _<_};
 ghost use Rattle.rules.specs.Numbers.{MAX-RANK};
-ghost use Rattle.rules.specs.Lent.{Rows};
-ghost use Rattle.rules.specs.Plan.{plan};
-ghost use Rattle.plans.specs.Plans.{Planned, finishOf, united, Inside, todo};
-use crate::walks::Walks;
-use roots::path::Trail;
-use rules::call::Answer;
+ghost use Rattle.rules.specs.Lent.{valueOf};
+ghost use Rattle.rules.specs.Contract.{rowsNow, rowsLent};
+ghost use Rattle.snapshot_vec.specs.Bounds.{InRows};
+ghost use Rattle.plans.specs.Plans.{finishOf, united, InsideEnd, Inside, MadeOfOne, MadeOfTwo, Posted, Joined};
+use crate::verdict::Finish;
+use crate::verdict::OneCall;
+use crate::verdict::TwoCall;
+use crate::verdict::Verdict;
+use rules::answer::found;
+use rules::answer::probed;
+use rules::answer::said;
+use rules::answer::stepped;
+use rules::numbers::BROKEN_TABLE;
+use rules::numbers::DONE;
+use rules::numbers::MAX_RANK;
+use rules::numbers::OWNER_CLASH;
+use rules::numbers::TOO_MUCH;
+use rules::owner::owner_of;
+use rules::table::Merged;
+use rules::table::Row;
 use rules::table::Value;
+use snapshot_vec::rows::row_at;
 
-// What is written at the roots, after the walks.
-pub enum Finish {
-    Nothing,
-    // a root's rank and value
-    Crown(u32, u32, Value),
-    // the root that redirects, the one that it redirects to, with its rank and value
-    Unite(u32, u32, u32, Value),
-}
-
-// A plan: the answer, the walks to be rewritten and the end at the roots.
-pub struct Todo {
-    pub answer: Answer,
-    pub first: Trail,
-    pub second: Trail,
-    pub finish: Finish,
-}
-
-// A plan that writes nothing.
-pub fn still(answer: Answer) -> Todo
-    ensures { λ r. ⌜ ((rs : Rows) (count : ℕ) → Planned rs count r (plan answer [])) ⌝ }
+// The value of a row.
+pub fn value_of(row: Row) -> Value
+    ensures { λ r. ⌜ r ≡ valueOf row ⌝ }
 {
-    let first = crate::walks::idle();
-    let second = crate::walks::idle();
-    Todo {
-        answer,
-        first,
-        second,
-        finish: Finish::Nothing,
+    let owner = row.owner;
+    let amount = row.amount;
+    Value { owner, amount }
+}
+
+// A value on a root.
+fn post_plan(held: Row, root: u32, steps: u32, value: Value) -> Verdict
+    ensures { λ r. ⌜ Posted held root steps value r ⌝ }
+    ensures { λ r. ⌜ ((count : ℕ) → root < count → Inside count r) ⌝ }
+{
+    let merged = value::unify_values(value_of(held), value);
+    match merged {
+        Merged::Clash => Verdict::Planned(stepped(OWNER_CLASH, steps), Finish::Nothing),
+        Merged::TooMuch => Verdict::Planned(stepped(TOO_MUCH, steps), Finish::Nothing),
+        Merged::Both(sum) => {
+            let finish = Finish::Crown(root, held.rank, sum);
+            Verdict::Planned(stepped(DONE, steps), finish)
+        }
     }
 }
 
-// The walks, and an end at the roots.
-pub fn along(answer: Answer, walks: Walks, finish: Finish) -> Todo
-    ensures { λ r. ⌜ r ≡ todo answer walks finish ⌝ }
+// A call whose walk of so many steps ends at a root.
+pub fn one_plan(
+    parents: &[u32],
+    crowns: &[u32],
+    amounts: &[u64],
+    call: OneCall,
+    root: u32,
+    steps: u32,
+) -> Verdict
+    requires { ⌜ InRows root (rowsNow parents crowns amounts) ⌝ }
+    ensures { let rs = rowsLent parents crowns amounts in λ r. ⌜ MadeOfOne (rs .entry) call root steps r ⌝ }
+    ensures { λ r. ⌜ ((count : ℕ) → root < count → Inside count r) ⌝ }
 {
-    let first = walks.first;
-    let second = walks.second;
-    Todo {
-        answer,
-        first,
-        second,
-        finish,
+    match call {
+        OneCall::Find => Verdict::Planned(found(root, steps), Finish::Nothing),
+        OneCall::Probe => {
+            let held = row_at(parents, crowns, amounts, root);
+            Verdict::Planned(probed(0, value_of(held), steps), Finish::Nothing)
+        }
+        OneCall::ProbeKey => {
+            let held = row_at(parents, crowns, amounts, root);
+            Verdict::Planned(probed(root, value_of(held), steps), Finish::Nothing)
+        }
+        OneCall::Post(owner, amount) => {
+            let held = row_at(parents, crowns, amounts, root);
+            let value = Value {
+                owner: owner_of(owner),
+                amount,
+            };
+            post_plan(held, root, steps, value)
+        }
     }
 }
 
 // Which root redirects to which: ena's `unify_roots`.
-pub fn unify_roots(key_a: u32, rank_a: u32, key_b: u32, rank_b: u32, value: Value) -> Finish
+fn unify_roots(key_a: u32, rank_a: u32, key_b: u32, rank_b: u32, value: Value) -> Finish
     requires { ⌜ «rank_b» ≤ MAX-RANK ⌝ }
     ensures { λ r. ⌜ finishOf r ≡ united «key_a» «rank_a» «key_b» «rank_b» value ⌝ }
-    ensures { λ r. ⌜ ((count : ℕ) → «key_a» < count → «key_b» < count → Inside count r) ⌝ }
+    ensures { λ r. ⌜ ((count : ℕ) → «key_a» < count → «key_b» < count → InsideEnd count r) ⌝ }
 {
     if rank_a > rank_b {
         return Finish::Unite(key_b, key_a, rank_a, value);
@@ -68,4 +96,54 @@ pub fn unify_roots(key_a: u32, rank_a: u32, key_b: u32, rank_b: u32, value: Valu
         return Finish::Unite(key_a, key_b, rank_b, value);
     }
     Finish::Unite(key_a, key_b, rank_b + 1, value)
+}
+
+// Two different roots made one, where their values merge.
+fn join_roots(key_a: u32, row_a: Row, key_b: u32, row_b: Row, steps: u32) -> Verdict
+    ensures { λ r. ⌜ Joined «key_a» «row_a» «key_b» «row_b» steps r ⌝ }
+    ensures { λ r. ⌜ ((count : ℕ) → «key_a» < count → «key_b» < count → Inside count r) ⌝ }
+{
+    if row_a.rank > MAX_RANK {
+        return Verdict::Refused(BROKEN_TABLE);
+    }
+    if row_b.rank > MAX_RANK {
+        return Verdict::Refused(BROKEN_TABLE);
+    }
+    let merged = value::unify_values(value_of(row_a), value_of(row_b));
+    match merged {
+        Merged::Clash => Verdict::Planned(stepped(OWNER_CLASH, steps), Finish::Nothing),
+        Merged::TooMuch => Verdict::Planned(stepped(TOO_MUCH, steps), Finish::Nothing),
+        Merged::Both(sum) => {
+            let finish = unify_roots(key_a, row_a.rank, key_b, row_b.rank, sum);
+            Verdict::Planned(stepped(DONE, steps), finish)
+        }
+    }
+}
+
+// A call whose two walks, of so many steps together, end at the roots `a` and `b`.
+pub fn two_plan(
+    parents: &[u32],
+    crowns: &[u32],
+    amounts: &[u64],
+    call: TwoCall,
+    a: u32,
+    b: u32,
+    steps: u32,
+) -> Verdict
+    requires { ⌜ InRows a (rowsNow parents crowns amounts) ⌝ }
+    requires { ⌜ InRows b (rowsNow parents crowns amounts) ⌝ }
+    ensures { let rs = rowsLent parents crowns amounts in λ r. ⌜ MadeOfTwo (rs .entry) call a b steps r ⌝ }
+    ensures { λ r. ⌜ ((count : ℕ) → a < count → b < count → Inside count r) ⌝ }
+{
+    match call {
+        TwoCall::Unioned => Verdict::Planned(said(a == b, steps), Finish::Nothing),
+        TwoCall::Join => {
+            if a == b {
+                return Verdict::Planned(stepped(DONE, steps), Finish::Nothing);
+            }
+            let row_a = row_at(parents, crowns, amounts, a);
+            let row_b = row_at(parents, crowns, amounts, b);
+            join_roots(a, row_a, b, row_b, steps)
+        }
+    }
 }

@@ -1,3 +1,3 @@
--- What the proofs of several functions use.
+-- What the proofs of several functions use, and what callers cite: RollbackLaws.
 pub mod UndoLaws
 pub mod RollbackLaws

@@ -1,25 +1,26 @@
--- What a rollback is at each of its ends. Assumes nothing.
+-- What a rollback is at each of its ends, and what its functions ask of their callers. Assumes nothing.
 use mathlib.Core.Path.{_≡_, refl}
-use mathlib.Core.Bool.{Bool, true, false, not, _||_}
+use mathlib.Core.Bool.{Bool, true, false, cond, not, _||_}
+use mathlib.Core.List.{List}
 use Prim.Native.Nat.{ℕ, _≤_}
 use native.Mathlib.Omega.{arith}
-use lib.ListN.{length}
 use lib.Dec.{ltb}
 use borrow.Author.Tests.{ltb-false, not-false}
 use Rattle.rules.specs.declared.call.Call.the-variants.{Rollback}
-use Rattle.rules.specs.declared.call.Answered.{Answered}
+use Rattle.rules.specs.declared.table.Head.{Head}
 use Rattle.rules.specs.declared.table.Mark.{Mark}
-use Rattle.rules.specs.declared.table.State.{State}
-use Rattle.rules.specs.Numbers.{DONE, NOT-INNERMOST, BROKEN-TABLE, BAD-STATE}
-use Rattle.rules.specs.Lent.{Rows, Log, Table, table}
-use Rattle.rules.specs.Answer.{refusal, answered}
-use Rattle.rules.specs.Tokens.{innermost, notInnermost, unfit, since, undoable, undo, rolledBack}
-use Rattle.rules.specs.Refusal.{Outcome, sizesOf, bad}
-use Rattle.rules.specs.Contract.{outcomeOf}
-use Rattle.rules.specs.Step.{rollback, call, step}
-use Rattle.rules.proofs.StateLaws.{Good}
-use Rattle.rollback.specs.Since.{Logged, Since, Reversible, Sound, broken}
-use Rattle.rollback.proofs.UndoLaws.{undoable-below}
+use Rattle.rules.specs.declared.table.Sought.the-variants.{Missing, Held}
+use Rattle.rules.specs.Numbers.{DONE, NOT-INNERMOST, BROKEN-TABLE}
+use Rattle.rules.specs.Lent.{Rows, Log, table, entries, withHead}
+use Rattle.rules.specs.Answer.{refusal}
+use Rattle.rules.specs.Tokens.{notInnermost, innermost, unfit, since, undoable, undo, rolledBack}
+use Rattle.rules.specs.Refusal.{outcome, refused, sizesOf, bad}
+use Rattle.rules.specs.Step.{call, step}
+use Rattle.rules.proofs.StateLaws.{Good, bad-good}
+use Rattle.snapshot_vec.proofs.BoundLaws.{in-rows, in-log}
+use Rattle.undo_log.specs.Settled.{stateWith, latest}
+use Rattle.rollback.specs.Since.{Logged, Reversible, broken}
+use Rattle.rollback.proofs.UndoLaws.{undoable-rows}
 
 -- ---- what is refused before anything is undone
 
@@ -27,72 +28,68 @@ neither : (a b : Bool) → (a || b) ≡ false → (a ≡ false) × (b ≡ false)
 neither true b q = (q, cc)
 neither false b q = (refl, q)
 
-module _ (l : Log) (s : State) (m : Mark) where
-  pub broken-unfit : unfit s m ≡ true → true ≡ broken l s m
+module _ (h : Head) (m : Mark) (l : Log) where
+  pub broken-unfit : unfit h m ≡ true → true ≡ broken h m l
   unfolding broken
   broken-unfit u = rw u
 
-  pub broken-fit : unfit s m ≡ false → (b : Bool) → b ≡ undoable (m .keys) (s .count) (since l s m) → not b ≡ broken l s m
+  pub broken-fit : unfit h m ≡ false → (b : Bool) → b ≡ undoable (m .keys) (h .count) (since l h m) → not b ≡ broken h m l
   unfolding broken
   broken-fit u b q = rw (u, q)
 
-  pub fit : unfit s m ≡ false → m .«log_len» ≤ s .used
-  fit u = ltb-false (s .used) (m .«log_len») (neither (ltb (s .used) (m .«log_len»)) (ltb (s .count) (m .keys)) u .0)
+  pub fit : unfit h m ≡ false → m .«log_len» ≤ h .used
+  fit u = ltb-false (h .used) (m .«log_len») (neither (ltb (h .used) (m .«log_len»)) (ltb (h .count) (m .keys)) u .0)
 
-  module _ (q : broken l s m ≡ false) where
-    halves : (unfit s m ≡ false) × (not (undoable (m .keys) (s .count) (since l s m)) ≡ false)
-    unfolding broken
-    halves = neither (unfit s m) (not (undoable (m .keys) (s .count) (since l s m))) q
+  halves : broken h m l ≡ false → (unfit h m ≡ false) × (not (undoable (m .keys) (h .count) (since l h m)) ≡ false)
+  unfolding broken
+  halves q = neither (unfit h m) (not (undoable (m .keys) (h .count) (since l h m))) q
 
-    pub whole-fit : m .«log_len» ≤ s .used
-    whole-fit = fit (halves .0)
+-- ---- a table that is not bad: what `broken` and `undo` require
 
-    pub whole-undoable : undoable (m .keys) (s .count) (since l s m) ≡ true
-    whole-undoable = not-false (undoable (m .keys) (s .count) (since l s m)) (halves .1)
+module _ (rs : Rows) (lg : Log) (h : Head) (g : bad (sizesOf rs lg) h ≡ false) where
+  good : Good (sizesOf rs lg) h
+  good = bad-good (sizesOf rs lg) h g
 
--- ---- a table that is not bad
+  pub all-logged : Logged (h .used) lg
+  all-logged i q = in-log lg i (entries lg) (omega (arith, good)) (omega (arith, good)) (omega (arith, good, q))
 
-module _ (t : Table) (g : Good (sizesOf t) (t .state)) where
-  pub good-logged : Logged (t .state .used) (t .log)
-  good-logged = omega arith
+  module _ (m : Mark) (q : broken h m lg ≡ false) where
+    pub in-order : m .«log_len» ≤ h .used
+    in-order = fit h m lg (halves h m lg q .0)
 
-  module _ (m : Mark) (q : broken (t .log) (t .state) m ≡ false) where
-    pub good-since : Since (m .«log_len») (t .state .used) (t .log)
-    good-since = record { order = whole-fit (t .log) (t .state) m q; logged = good-logged }
-
-    pub good-reversible : Reversible (since (t .log) (t .state) m) (t .rows)
-    good-reversible =
-        record {
-          below =
-              undoable-below (length (t .rows .parents)) (m .keys) (t .state .count) (since (t .log) (t .state) m) (g .count)
-              (whole-undoable (t .log) (t .state) m q);
-          rowed = omega arith;
-        }
+    pub reversible : Reversible rs (since lg h m)
+    reversible =
+        undoable-rows rs (m .keys) (h .count) (since lg h m)
+        (λ i p. in-rows rs i (good .level .crowns) (good .level .amounts) (omega (arith, good .count, p)))
+        (not-false (undoable (m .keys) (h .count) (since lg h m)) (halves h m lg q .1))
 
 -- ---- the ends
 
-module _ (t : Table) (token : ℕ) (r : Answered) where
-  pub rollback-bad : bad (sizesOf t) (t .state) ≡ true → r ≡ answered (refusal BAD-STATE) (t .state)
-      → outcomeOf r (table (t .rows) (t .log)) ≡ step t (Rollback token)
-  unfolding step
-  rollback-bad e a = rw (a, e)
+missing : (b : Bool) (i : Mark) → cond b Missing (Held i) ≡ Missing → b ≡ true
+missing true i e = refl
+missing false i e = cc
 
-  pub rollback-not-innermost : notInnermost (t .state) token ≡ true → r ≡ answered (refusal NOT-INNERMOST) (t .state)
-      → outcomeOf r (table (t .rows) (t .log)) ≡ rollback t token
-  rollback-not-innermost n a = rw (a, n)
+held : (b : Bool) (i m : Mark) → cond b Missing (Held i) ≡ Held m → (b ≡ false) × (i ≡ m)
+held true i m e = (cc, cc)
+held false i m e = (refl, cc)
 
-  module _ (n : notInnermost (t .state) token ≡ false) (m : Mark) (i : m ≡ innermost (t .state)) where
-    pub rollback-broken : broken (t .log) (t .state) m ≡ true → r ≡ answered (refusal BROKEN-TABLE) (t .state)
-        → outcomeOf r (table (t .rows) (t .log)) ≡ rollback t token
-    unfolding broken
-    rollback-broken b a = rw (a, n, rw i at b)
+module _ (rs : Rows) (lg : Log) (h : Head) (l : ℕ) (ms : List Mark) (token : ℕ) (g : bad (sizesOf rs lg) h ≡ false) where
+  pub rollback-missing : latest (stateWith h l ms) token ≡ Missing
+      → step (table rs lg (stateWith h l ms)) (Rollback token) ≡ refused NOT-INNERMOST (table rs lg (stateWith h l ms))
+  unfolding step call
+  rollback-missing e = let s = stateWith h l ms in rw (g, missing (notInnermost s token) (innermost s) e)
 
-    pub rollback-done : broken (t .log) (t .state) m ≡ false → (rs : Rows) (s : State) → rs ≡ undo (t .rows) (since (t .log) (t .state) m)
-        → s ≡ rolledBack (t .state) m → r ≡ answered (refusal DONE) s → outcomeOf r (table rs (t .log)) ≡ rollback t token
-    unfolding broken
-    rollback-done b rs s u q a = rw (a, q, u, n, i, rw i at b)
+  module _ (m : Mark) (e : latest (stateWith h l ms) token ≡ Held m) where
+    found : (notInnermost (stateWith h l ms) token ≡ false) × (innermost (stateWith h l ms) ≡ m)
+    found = let s = stateWith h l ms in held (notInnermost s token) (innermost s) m e
 
--- past BAD_STATE
-pub rollback-sound : (t : Table) (token : ℕ) (o : Outcome) → Sound t → o ≡ rollback t token → o ≡ step t (Rollback token)
-unfolding step call
-rollback-sound t token o e q = rw (e, q)
+    pub rollback-broken : broken h m lg ≡ true
+        → step (table rs lg (stateWith h l ms)) (Rollback token) ≡ refused BROKEN-TABLE (table rs lg (stateWith h l ms))
+    unfolding step call broken
+    rollback-broken b = rw (g, found .0, found .1, b)
+
+    pub rollback-done : broken h m lg ≡ false
+        → step (table rs lg (stateWith h l ms)) (Rollback token)
+        ≡ outcome (refusal DONE) (table (undo rs (since lg h m)) lg (withHead (stateWith h l ms) (rolledBack h m)))
+    unfolding step call broken
+    rollback-done b = rw (g, found .0, found .1, b)

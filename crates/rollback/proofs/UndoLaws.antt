@@ -12,15 +12,8 @@ use Rattle.rules.specs.declared.table.UndoLog.{UndoLog}
 use Rattle.rules.specs.declared.table.UndoLog.the-variants.{NewElem, SetElem, Unknown}
 use Rattle.rules.specs.Lent.{Rows, Log, entryAt}
 use Rattle.rules.specs.Tokens.{newestFirst, undoable, reversed, undo}
-use Rattle.snapshot_vec.specs.Bounds.{Undoing}
-use Rattle.rollback.specs.Since.{Below, Rowed, allowed, countBefore}
-
--- rows and a log of plain lists
-abbrev pub rowsOf : List ℕ → List ℕ → List ℕ → List ℕ → Rows
-rowsOf p r o a = record { parents = p; ranks = r; owners = o; amounts = a }
-
-abbrev pub logOf : List ℕ → List ℕ → List ℕ → List ℕ → List ℕ → List ℕ → Log
-logOf k i p r o a = record { kinds = k; keys = i; old = rowsOf p r o a }
+use Rattle.snapshot_vec.specs.Bounds.{InRows, Undoing}
+use Rattle.rollback.specs.Since.{Reversible, allowed, countBefore}
 
 -- the last of `count` keys, as the code tests it
 pub last-key : (key count : ℕ) → 0 < count → eqb key (count - 1) ≡ eqb (key + 1) count
@@ -44,17 +37,24 @@ passes (NewElem key) es keys count q = rw q
 passes (SetElem key old) es keys count q = rw q
 passes Unknown es keys count q = let z : _≡_ {A = ℕ} 0 1 = cc in absurd (omega arith)
 
-below-tail : (n : ℕ) (e : UndoLog) (es : List UndoLog) → Below n (e ∷ es) → Below n es
-unfolding Below
-below-tail n (NewElem key) es b = b
-below-tail n (SetElem key old) es b = b .1
-below-tail n Unknown es b = b
+-- ---- what can be undone changes only rows below the count
 
-below-head : (n : ℕ) (e : UndoLog) (es : List UndoLog) (rs : Rows) → Below n (e ∷ es) → Rowed n rs → Undoing e rs
-unfolding Below
-below-head n (NewElem key) es rs b r = tt
-below-head n (SetElem key old) es rs b r = let h = b .0 in record { parents = omega arith; ranks = omega arith; owners = omega arith; amounts = omega arith }
-below-head n Unknown es rs b r = tt
+both : (a b : Bool) → (a && b) ≡ true → (a ≡ true) × (b ≡ true)
+both true b q = (refl, q)
+both false b q = (q, cc)
+
+pub undoable-rows : (rs : Rows) (keys count : ℕ) (es : List UndoLog) → ((i : ℕ) → i < count → InRows i rs) → undoable keys count es ≡ true
+    → Reversible rs es
+unfolding undoable Reversible
+undoable-rows rs keys count [] r q = tt
+undoable-rows rs keys count (NewElem key ∷ es) r q =
+    let p = both (eqb (key + 1) count) (undoable keys key es) q in
+    let k = eqb-true (key + 1) count (p .0) in
+    (tt, undoable-rows rs keys key es (λ i h. r i (omega (arith, k, h))) (p .1))
+undoable-rows rs keys count (SetElem key old ∷ es) r q =
+    let p = both (ltb key count) (undoable keys count es) q in
+    (r key (ltb-true key count (p .0)), undoable-rows rs keys count es r (p .1))
+undoable-rows rs keys count (Unknown ∷ es) r q = let z : _≡_ {A = ℕ} 0 1 = cc in absurd (omega arith)
 
 -- ---- the newest of n entries
 
@@ -76,64 +76,45 @@ module _ (l : Log) (base n : ℕ) (h : 0 < n) (e : UndoLog) (q : e ≡ entryAt l
         → undoable keys count (newestFirst l base n) ≡ undoable keys count′ (newestFirst l base (n - 1))
     passed-next count′ a r = rw (newest, r) (passes e (newestFirst l base (n - 1)) keys count a)
 
-  module _ (m : ℕ) (b : Below m (newestFirst l base n)) where
-    below-next : Below m (newestFirst l base (n - 1))
-    below-next = below-tail m e (newestFirst l base (n - 1)) (rw newest at b)
-
-    row-next : (rs : Rows) → Rowed m rs → Undoing e rs
-    row-next rs r = below-head m e (newestFirst l base (n - 1)) rs (rw newest at b) r
+  reversible-next : (rs : Rows) → Reversible rs (newestFirst l base n) → Undoing e rs × Reversible rs (newestFirst l base (n - 1))
+  unfolding Reversible
+  reversible-next rs b = rw newest at b
 
   undone-next : (rs rs′ : Rows) → rs′ ≡ reversed rs e → undo rs (newestFirst l base n) ≡ undo rs′ (newestFirst l base (n - 1))
   unfolding undo
   undone-next rs rs′ r = rw (newest, r)
 
--- ---- what can be undone changes only rows below the count
-
-both : (a b : Bool) → (a && b) ≡ true → (a ≡ true) × (b ≡ true)
-both true b q = (refl, q)
-both false b q = (q, cc)
-
-pub undoable-below : (n keys count : ℕ) (es : List UndoLog) → count ≤ n → undoable keys count es ≡ true → Below n es
-unfolding undoable Below
-undoable-below n keys count [] h q = tt
-undoable-below n keys count (NewElem key ∷ es) h q =
-    let p = both (eqb (key + 1) count) (undoable keys key es) q in
-    let k = eqb-true (key + 1) count (p .0) in
-    undoable-below n keys key es (omega arith) (p .1)
-undoable-below n keys count (SetElem key old ∷ es) h q =
-    let p = both (ltb key count) (undoable keys count es) q in
-    let k = ltb-true key count (p .0) in
-    (omega arith, undoable-below n keys count es h (p .1))
-undoable-below n keys count (Unknown ∷ es) h q = let z : _≡_ {A = ℕ} 0 1 = cc in absurd (omega arith)
-
 -- ---- part of the entries is undone
 
 -- as many rows
-pub record Alike (now before : Rows) : Type 0 where
+pub record AsLong (now before : Rows) : Type 0 where
   pub parents : length (now .parents) ≡ length (before .parents)
-  pub ranks : length (now .ranks) ≡ length (before .ranks)
-  pub owners : length (now .owners) ≡ length (before .owners)
+  pub crowns : length (now .crowns) ≡ length (before .crowns)
   pub amounts : length (now .amounts) ≡ length (before .amounts)
 
-alike-reversed : (rs : Rows) (e : UndoLog) → Alike (reversed rs e) rs
-alike-reversed rs (NewElem key) = record { parents = refl; ranks = refl; owners = refl; amounts = refl }
-alike-reversed rs (SetElem key old) =
-    record { parents = simp length-set; ranks = simp length-set; owners = simp length-set; amounts = simp length-set }
-alike-reversed rs Unknown = record { parents = refl; ranks = refl; owners = refl; amounts = refl }
+as-long-reversed : (rs : Rows) (e : UndoLog) → AsLong (reversed rs e) rs
+as-long-reversed rs (NewElem key) = record { parents = refl; crowns = refl; amounts = refl }
+as-long-reversed rs (SetElem key old) = record { parents = simp length-set; crowns = simp length-set; amounts = simp length-set }
+as-long-reversed rs Unknown = record { parents = refl; crowns = refl; amounts = refl }
 
-alike-next : (now before : Rows) (e : UndoLog) (rs : Rows) → rs ≡ reversed now e → Alike now before → Alike rs before
-alike-next now before e rs q a = let b = alike-reversed now e in rw q (omega arith)
+as-long-next : (now before : Rows) (e : UndoLog) (rs : Rows) → rs ≡ reversed now e → AsLong now before → AsLong rs before
+as-long-next now before e rs q a = let b = as-long-reversed now e in rw q (omega arith)
+
+as-long-row : (now before : Rows) (e : UndoLog) → AsLong now before → Undoing e before → Undoing e now
+as-long-row now before (NewElem key) a u = tt
+as-long-row now before (SetElem key old) a u = omega arith
+as-long-row now before Unknown a u = tt
 
 -- of `all` entries from `base` on, those past the first `left` are undone
 pub record Undone (before now : Rows) (l : Log) (base all left : ℕ) : Type 0 where
   pub rest : left ≤ all
-  pub alike : Alike now before
-  pub below : Below (length (before .parents)) (newestFirst l base left)
+  pub as-long : AsLong now before
+  pub reversible : Reversible before (newestFirst l base left)
   pub undone : undo before (newestFirst l base all) ≡ undo now (newestFirst l base left)
 
-pub none-undone : (rs : Rows) (l : Log) (base all : ℕ) → Below (length (rs .parents)) (newestFirst l base all) → Undone rs rs l base all all
-none-undone rs l base all b =
-    record { rest = omega arith; alike = record { parents = refl; ranks = refl; owners = refl; amounts = refl }; below = b; undone = refl }
+pub none-undone : (rs : Rows) (l : Log) (base all : ℕ) → Reversible rs (newestFirst l base all) → Undone rs rs l base all all
+none-undone rs l base all r =
+    record { rest = omega arith; as-long = record { parents = refl; crowns = refl; amounts = refl }; reversible = r; undone = refl }
 
 module _ (before now : Rows) (l : Log) (base all left : ℕ) (u : Undone before now l base all left) where
   pub all-undone : left ≡ 0 → now ≡ undo before (newestFirst l base all)
@@ -141,14 +122,14 @@ module _ (before now : Rows) (l : Log) (base all left : ℕ) (u : Undone before 
   all-undone q = sym (u .undone ∙ ap (λ (n : ℕ). undo now (newestFirst l base n)) q)
 
   module _ (h : 0 < left) (e : UndoLog) (q : e ≡ entryAt l (base + (left - 1))) where
-    pub undone-row : Rowed (length (before .parents)) before → Undoing e now
-    undone-row r = row-next l base left h e q (length (before .parents)) (u .below) now (let a = u .alike in omega arith)
+    pub undone-row : Undoing e now
+    undone-row = as-long-row now before e (u .as-long) (reversible-next l base left h e q before (u .reversible) .0)
 
     pub undone-more : (rs : Rows) → rs ≡ reversed now e → Undone before rs l base all (left - 1)
     undone-more rs r =
         record {
           rest = let p = u .rest in omega arith;
-          alike = alike-next now before e rs r (u .alike);
-          below = below-next l base left h e q (length (before .parents)) (u .below);
+          as-long = as-long-next now before e rs r (u .as-long);
+          reversible = reversible-next l base left h e q before (u .reversible) .1;
           undone = u .undone ∙ undone-next l base left h e q now rs r;
         }

@@ -1,3 +1,4 @@
-// Rollback: from ena's `rollback_to`. All entries are read before the first is undone, so that a refusal leaves the rows alone.
+// What a rollback judges and undoes: from ena's `rollback_to`. All entries are read before the first is undone, so that a refusal
+// leaves the rows alone.
 pub mod rollback;
 pub mod undo;

@@ -1,9 +1,9 @@
 // The entries since a snapshot, read and undone newest first.
 ghost use mathlib.Core.Path.{_≡_};
-ghost use Prim.Native.Nat.{_-_};
+ghost use Prim.Native.Nat.{_-_, _≤_};
 ghost use Rattle.rules.specs.Tokens.{newestFirst, undoable, undo};
-ghost use Rattle.rules.specs.Contract.{rowsNow, rowsLent, logNow, logLent};
-ghost use Rattle.rollback.specs.Since.{Since, Reversible, allowed, countBefore};
+ghost use Rattle.rules.specs.Contract.{rowsNow, rowsLent, logLent};
+ghost use Rattle.rollback.specs.Since.{Logged, Reversible, allowed, countBefore};
 use rules::table::UndoLog;
 use snapshot_vec::entries::entry_at;
 use snapshot_vec::update::reverse;
@@ -36,36 +36,16 @@ fn count_before(entry: UndoLog, count: u32) -> u32
 }
 
 // Whether the entries from `base` up to `used` can all be undone, from `count` keys down to `keys`.
-pub fn undoable(
-    logkinds: &[u32],
-    logkeys: &[u32],
-    logparents: &[u32],
-    logranks: &[u32],
-    logowners: &[u32],
-    logamounts: &[u64],
-    base: u32,
-    used: u32,
-    keys: u32,
-    count: u32,
-) -> bool
-    requires { ⌜ Since base used (logNow logkinds logkeys logparents logranks logowners logamounts) ⌝ }
-    ensures { let log = logLent logkinds logkeys logparents logranks logowners logamounts in
-        λ r. ⌜ r ≡ undoable keys count (newestFirst (log .entry) base (used - base)) ⌝ }
+pub fn undoable(log: &[u32], base: u32, used: u32, keys: u32, count: u32) -> bool
+    requires { ⌜ base ≤ used ⌝ }
+    requires { ⌜ Logged used (now log) ⌝ }
+    ensures { let l = logLent log in λ r. ⌜ r ≡ undoable keys count (newestFirst (l .entry) base (used - base)) ⌝ }
 {
     let mut unread = used - base;
     let mut reached = count;
     while unread > 0 {
         unread -= 1;
-        let i = base + unread;
-        let entry = entry_at(
-            logkinds,
-            logkeys,
-            logparents,
-            logranks,
-            logowners,
-            logamounts,
-            i,
-        );
+        let entry = entry_at(log, base + unread);
         if !allowed(entry, reached) {
             return false;
         }
@@ -77,37 +57,23 @@ pub fn undoable(
 // Undoes the entries from `base` up to `used`.
 pub fn undo(
     parents: &mut [u32],
-    ranks: &mut [u32],
-    owners: &mut [u32],
+    crowns: &mut [u32],
     amounts: &mut [u64],
-    logkinds: &[u32],
-    logkeys: &[u32],
-    logparents: &[u32],
-    logranks: &[u32],
-    logowners: &[u32],
-    logamounts: &[u64],
+    log: &[u32],
     base: u32,
     used: u32,
 )
-    requires { ⌜ Since base used (logNow logkinds logkeys logparents logranks logowners logamounts) ⌝ }
-    requires { ⌜ Reversible (newestFirst (logNow logkinds logkeys logparents logranks logowners logamounts) base (used - base)) (rowsNow parents ranks owners amounts) ⌝ }
-    ensures { let rows = rowsLent parents ranks owners amounts in
-        let log = logLent logkinds logkeys logparents logranks logowners logamounts in
-        λ r. ⌜ rows .exit ≡ undo (rows .entry) (newestFirst (log .entry) base (used - base)) ⌝ }
+    requires { ⌜ base ≤ used ⌝ }
+    requires { ⌜ Logged used (now log) ⌝ }
+    requires { ⌜ Reversible (rowsNow parents crowns amounts) (newestFirst (now log) base (used - base)) ⌝ }
+    ensures { let rs = rowsLent parents crowns amounts in
+        let l = logLent log in
+        λ r. ⌜ rs .exit ≡ undo (rs .entry) (newestFirst (l .entry) base (used - base)) ⌝ }
 {
     let mut left = used - base;
     while left > 0 {
         left -= 1;
-        let i = base + left;
-        let entry = entry_at(
-            logkinds,
-            logkeys,
-            logparents,
-            logranks,
-            logowners,
-            logamounts,
-            i,
-        );
-        reverse(parents, ranks, owners, amounts, entry);
+        let entry = entry_at(log, base + left);
+        reverse(parents, crowns, amounts, entry);
     }
 }

@@ -1,18 +1,17 @@
--- Laws of the parents from a walk: the path from another there. key Assumes nothing.
-use mathlib.Core.Path.{_≡_, refl, ap, sym, subst, _∙_}
-use mathlib.Core.List.{List, [], _∷_, _++_, append-nil}
+-- Laws of the parents that a walk leaves, and of the path from another key there. Assumes nothing.
+use mathlib.Core.Path.{_≡_, refl, ap, sym, _∙_}
+use mathlib.Core.List.{List, [], _∷_, append-nil}
 use Prim.Native.Nat.{ℕ, zero, suc, _+_, _-_, _≤_, _<_}
 use native.Mathlib.Omega.{arith}
 use native.Mathlib.Decide.{decLt, ℕ-discrete}
-use native.Mathlib.Numerals.{add-one}
 use lib.ListN.{length, getD, take, set, length-set, length-take}
-use lib.Seq.{getD-set-same, getD-set-other, set-out, take-suc-set, take-set-le, getD-take}
+use lib.Seq.{getD-set-same, getD-set-other, set-out, take-set-le, getD-take}
 use mathlib.Core.Bool.{true}
 use Rattle.roots.specs.declared.path.Trail.{Trail}
-use Rattle.rules.specs.Walk.{Path, broken, to, from, path}
+use Rattle.rules.specs.Walk.{broken, to, from, path}
 use Rattle.roots.specs.Trail.{rootOf, passedOf, compress, compressed, traced, Short}
-use Rattle.roots.proofs.PathLaws.{path-out, path-root, path-spent, path-more, along, along-snoc, along-to, along-broken, trace-root, trace-out, trace-spent, trace-more}
-use Rattle.roots.proofs.WalkLaws.{Back, path-in, path-back, path-end, path-nil}
+use Rattle.roots.proofs.PathLaws.{path-root, along, along-to, trace-root, trace-out, trace-spent, trace-more}
+use Rattle.roots.proofs.WalkLaws.{path-in, path-back, path-end, path-nil}
 
 -- x is none of the keys
 abbrev pub Off : ℕ → List ℕ → Type 0

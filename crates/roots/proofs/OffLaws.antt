@@ -1,11 +1,11 @@
 -- The rows of a path are distinct. Assumes nothing.
-use mathlib.Core.Path.{_≡_, refl, ap, sym, _∙_}
+use mathlib.Core.Path.{_≡_, ap, sym, _∙_}
 use mathlib.Core.List.{List, [], _∷_}
-use Prim.Native.Nat.{ℕ, zero, suc, _-_, _≤_, _<_}
+use Prim.Native.Nat.{ℕ, zero, suc, _-_, _<_}
 use native.Mathlib.Omega.{arith}
 use native.Mathlib.Decide.{ℕ-discrete}
 use lib.ListN.{length, getD, drop, length-drop}
-use Rattle.rules.specs.Walk.{Path, to, path}
+use Rattle.rules.specs.Walk.{to, path}
 use Rattle.roots.proofs.PathLaws.{path-root}
 use Rattle.roots.proofs.WalkLaws.{path-in, path-back}
 use Rattle.roots.proofs.AfterLaws.{Off, path-cons}

@@ -1,18 +1,18 @@
 -- What a walk's writes leave: of the rows, the parents; of the log, the old rows. Assumes nothing.
 use mathlib.Core.Path.{_≡_, refl, ap, sym, _∙_}
 use mathlib.Core.List.{List, [], _∷_, _++_}
-use Prim.Native.Nat.{ℕ, zero, suc, _+_, _-_, _≤_, _<_}
+use Prim.Native.Nat.{ℕ, _+_, _-_}
 use native.Mathlib.Omega.{arith}
 use lib.ListN.{length, getD, set, length-append}
 use Rattle.rules.specs.declared.table.UndoLog.the-variants.{SetElem}
 use Rattle.rules.specs.Lent.{Rows, rowAt}
-use Rattle.rules.specs.Walk.{Path, to, path}
+use Rattle.rules.specs.Walk.{to, path}
 use Rattle.rules.specs.Write.{Write, redirect, write, writes, Memory, memory, logged, put, puts}
 use Rattle.rules.specs.Plan.{rewrites}
 use Rattle.rules.proofs.RowLaws.{write-redirect}
 use Rattle.roots.specs.Trail.{compress}
 use Rattle.roots.specs.Saves.{withParents, saves}
-use Rattle.roots.proofs.AfterLaws.{Off, compress-off, path-cons}
+use Rattle.roots.proofs.AfterLaws.{compress-off, path-cons}
 use Rattle.roots.proofs.OffLaws.{first-off}
 
 pub writes-snoc : (rs : Rows) (ws : List Write) (w : Write) → writes rs (ws ++ (w ∷ [])) ≡ write (writes rs ws) w

@@ -7,7 +7,7 @@ use Rattle.rules.specs.Lent.{Rows, rowAt}
 use Rattle.rules.specs.Write.{Memory, logged}
 
 abbrev pub withParents : Rows → List ℕ → Rows
-withParents rs ps = record { parents = ps; ranks = rs .ranks; owners = rs .owners; amounts = rs .amounts }
+withParents rs ps = record { parents = ps; crowns = rs .crowns; amounts = rs .amounts }
 
 -- Row `key` is logged as it stands.
 abbrev pub saved : ℕ → Memory → Memory

@@ -2,10 +2,12 @@
 use mathlib.Core.Path.{_≡_}
 use mathlib.Core.Bool.{cond}
 use mathlib.Core.List.{List, [], _∷_}
-use Prim.Native.Nat.{ℕ, _≤_}
+use Prim.Native.Nat.{ℕ, _≤_, _<_}
 use lib.ListN.{length, getD, take, set}
 use Rattle.rules.specs.Numbers.{MAX-REDIRECTS}
 use Rattle.rules.specs.Walk.{Path, broken, to, path}
+use Rattle.rules.specs.Write.{Write}
+use Rattle.rules.specs.Plan.{rewrites}
 use Rattle.roots.specs.declared.path.Trail.{Trail}
 
 abbrev pub rootOf : Trail → ℕ
@@ -23,11 +25,25 @@ pub record Short (t : Trail) : Type 0 where
   pub steps : t .steps ≤ MAX-REDIRECTS
   pub size : length (t .nodes) ≡ 17
 
+-- The trail of a walk that can be made in these rows, or of none.
+pub record Sound (parents : List ℕ) (count : ℕ) (t : Trail) : Type 0 where
+  pub short : Short t
+  pub there : 0 < t .steps → path parents count MAX-REDIRECTS (getD (t .nodes) 0 0) ≡ to (rootOf t) (passedOf t)
+
+-- A trail that leads nowhere.
+pub record Idle (t : Trail) : Type 0 where
+  pub steps : t .steps ≡ 0
+  pub size : length (t .nodes) ≡ 17
+
 -- The parents after a walk: the rows passed, but for the last, redirect to the root, the nearest first.
 unfoldable pub compress : ℕ → List ℕ → List ℕ → List ℕ
 compress root [] parents = parents
 compress root (key ∷ []) parents = parents
 compress root (key ∷ next ∷ passed) parents = set (compress root (next ∷ passed) parents) key root
+
+-- What a walk writes.
+abbrev pub walkOf : Trail → List Write
+walkOf t = rewrites (rootOf t) (passedOf t)
 
 abbrev pub compressed : Trail → List ℕ → List ℕ
 compressed t parents = compress (rootOf t) (passedOf t) parents

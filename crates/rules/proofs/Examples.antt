@@ -1,12 +1,12 @@
 -- Document 01, "Examples": those marked *, 1 to 13, as one statement over a list of calls and what is expected afterwards.
 use mathlib.Core.Path.{_≡_, refl}
 use mathlib.Core.List.{List, [], _∷_, _++_, map}
-use Prim.Native.Nat.{ℕ}
-use lib.ListN.{getD, replicate}
+use Prim.Native.Nat.{ℕ, _*_}
+use lib.ListN.{replicate}
 use Rattle.rules.specs.declared.call.Call.{Call}
 use Rattle.rules.specs.declared.call.Call.the-variants.{New, Find, Join, Post, Snapshot, Rollback, Commit}
-use Rattle.rules.specs.declared.call.Answer.{Answer}
-use Rattle.rules.specs.Lent.{Rows, Log, Table, table, fresh, numberOf, rowAt, kindOf, keyOf, oldOf, entryAt}
+use Rattle.rules.specs.Numbers.{CROWN, ENTRY}
+use Rattle.rules.specs.Lent.{Rows, Log, table, fresh, numberOf, rowAt, kindOf, keyOf, oldOf, entryAt}
 use Rattle.rules.specs.Merge.{merge}
 use Rattle.rules.specs.Walk.{path}
 use Rattle.rules.specs.Write.{writes, puts}
@@ -19,10 +19,10 @@ use Rattle.rules.specs.Step.{call, step}
 -- ---- a run from a fresh table, whose lent rows and entries hold anything at all
 
 abbrev lentRows : ℕ → Rows
-lentRows n = record { parents = replicate n 77; ranks = replicate n 77; owners = replicate n 77; amounts = replicate n 77 }
+lentRows n = record { parents = replicate n 77; crowns = replicate (n * CROWN) 77; amounts = replicate n 77 }
 
 abbrev lentLog : ℕ → Log
-lentLog n = record { kinds = replicate n 77; keys = replicate n 77; old = lentRows n }
+lentLog n = replicate (n * ENTRY) 77
 
 -- The last call's answer, and the table after it.
 run : Outcome → List Call → Outcome

@@ -1,4 +1,8 @@
 -- What is proved of the definitions.
 pub mod Examples
+pub mod AnswerLaws
 pub mod RowLaws
+pub mod EntryLaws
 pub mod StateLaws
+pub mod ReadLaws
+pub mod MergeLaws

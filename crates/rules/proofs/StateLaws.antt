@@ -2,33 +2,28 @@
 use mathlib.Core.Path.{_≡_, refl}
 use mathlib.Core.Bool.{Bool, true, false, cond, not}
 use mathlib.Core.List.{List, [], _∷_}
-use Prim.Native.Nat.{ℕ, _≤_}
+use Prim.Native.Nat.{ℕ, _*_, _%_, _/_, _≤_}
 use native.Mathlib.Decide.{ℕ-discrete}
 use lib.Dec.{ltb, eqb}
 use borrow.Author.Tests.{le-ltb, eq-eqb, ne-eqb, ltb-false, eqb-true, not-false}
-use Rattle.rules.specs.declared.table.State.{State}
-use Rattle.rules.specs.Numbers.{MAX-ROWS, MAX-ENTRIES, MAX-OPEN}
+use Rattle.rules.specs.declared.table.Head.{Head}
+use Rattle.rules.specs.Numbers.{MAX-ROWS, MAX-ENTRIES, MAX-OPEN, CROWN, ENTRY}
 use Rattle.rules.specs.Refusal.{Sizes, any, differ, faults, bad}
 
--- The ten lent parts are as long as each other, the rows' and the log's.
+-- Every row has its parent, its crown and its amount, and the log ends with an entry; all within the limits.
 pub record Level (z : Sizes) : Type 0 where
-  pub ranks : z .ranks ≡ z .parents
-  pub owners : z .owners ≡ z .parents
-  pub amounts : z .amounts ≡ z .parents
-  pub keys : z .keys ≡ z .kinds
-  pub old-parents : z .old-parents ≡ z .kinds
-  pub old-ranks : z .old-ranks ≡ z .kinds
-  pub old-owners : z .old-owners ≡ z .kinds
-  pub old-amounts : z .old-amounts ≡ z .kinds
-
-pub record Good (z : Sizes) (s : State) : Type 0 where
-  pub level : Level z
   pub rows : z .parents ≤ MAX-ROWS
-  pub log : z .kinds ≤ MAX-ENTRIES
-  pub count : s .count ≤ z .parents
-  pub used : s .used ≤ z .kinds
-  pub opened : s .«open» ≤ MAX-OPEN
-  pub shut : s .«open» ≡ 0 → s .used ≡ 0
+  pub log : z .log ≤ MAX-ENTRIES * ENTRY
+  pub crowns : z .crowns ≡ z .parents * CROWN
+  pub amounts : z .amounts ≡ z .parents
+  pub whole : z .log % ENTRY ≡ 0
+
+pub record Good (z : Sizes) (h : Head) : Type 0 where
+  pub level : Level z
+  pub count : h .count ≤ z .parents
+  pub used : h .used ≤ z .log / ENTRY
+  pub opened : h .«open» ≤ MAX-OPEN
+  pub shut : h .«open» ≡ 0 → h .used ≡ 0
 
 abbrev Falses : List Bool → Type 0
 Falses [] = Unit {0}
@@ -53,53 +48,43 @@ unused o u e q = same u 0 (rw (eq-eqb o 0 q) at e)
 idle : (o u : ℕ) → (o ≡ 0 → u ≡ 0) → cond (eqb o 0) (differ u 0) false ≡ false
 idle o u h = elim (ℕ-discrete o 0) [ yes q ↦ rw (eq-eqb o 0 q, eq-eqb u 0 (h q)) | no n ↦ rw (ne-eqb o 0 n) ]
 
-module _ (z : Sizes) (s : State) where
-  pub good-bad : Good z s → bad z s ≡ false
+module _ (z : Sizes) (h : Head) where
+  pub good-bad : Good z h → bad z h ≡ false
   unfolding bad
   good-bad g =
       rw (
-        le-ltb MAX-ROWS (z .parents) (g .rows),
-        eq-eqb (z .ranks) (z .parents) (g .level .ranks),
-        eq-eqb (z .owners) (z .parents) (g .level .owners),
+        le-ltb MAX-ROWS (z .parents) (g .level .rows),
+        le-ltb (MAX-ENTRIES * ENTRY) (z .log) (g .level .log),
+        eq-eqb (z .crowns) (z .parents * CROWN) (g .level .crowns),
         eq-eqb (z .amounts) (z .parents) (g .level .amounts),
-        le-ltb MAX-ENTRIES (z .kinds) (g .log),
-        eq-eqb (z .keys) (z .kinds) (g .level .keys),
-        eq-eqb (z .old-parents) (z .kinds) (g .level .old-parents),
-        eq-eqb (z .old-ranks) (z .kinds) (g .level .old-ranks),
-        eq-eqb (z .old-owners) (z .kinds) (g .level .old-owners),
-        eq-eqb (z .old-amounts) (z .kinds) (g .level .old-amounts),
-        le-ltb (z .parents) (s .count) (g .count),
-        le-ltb (z .kinds) (s .used) (g .used),
-        le-ltb MAX-OPEN (s .«open») (g .opened),
-        idle (s .«open») (s .used) (g .shut),
+        eq-eqb (z .log % ENTRY) 0 (g .level .whole),
+        le-ltb (z .parents) (h .count) (g .count),
+        le-ltb (z .log / ENTRY) (h .used) (g .used),
+        le-ltb MAX-OPEN (h .«open») (g .opened),
+        idle (h .«open») (h .used) (g .shut),
       )
 
-  pub bad-good : bad z s ≡ false → Good z s
+  pub bad-good : bad z h ≡ false → Good z h
   unfolding bad
   bad-good e =
-      let f = any-falses (faults z s) e in
+      let f = any-falses (faults z h) e in
       record {
         level = record {
-          ranks = same (z .ranks) (z .parents) (f .1 .0);
-          owners = same (z .owners) (z .parents) (f .1 .1 .0);
+          rows = ltb-false MAX-ROWS (z .parents) (f .0);
+          log = ltb-false (MAX-ENTRIES * ENTRY) (z .log) (f .1 .0);
+          crowns = same (z .crowns) (z .parents * CROWN) (f .1 .1 .0);
           amounts = same (z .amounts) (z .parents) (f .1 .1 .1 .0);
-          keys = same (z .keys) (z .kinds) (f .1 .1 .1 .1 .1 .0);
-          old-parents = same (z .old-parents) (z .kinds) (f .1 .1 .1 .1 .1 .1 .0);
-          old-ranks = same (z .old-ranks) (z .kinds) (f .1 .1 .1 .1 .1 .1 .1 .0);
-          old-owners = same (z .old-owners) (z .kinds) (f .1 .1 .1 .1 .1 .1 .1 .1 .0);
-          old-amounts = same (z .old-amounts) (z .kinds) (f .1 .1 .1 .1 .1 .1 .1 .1 .1 .0);
+          whole = same (z .log % ENTRY) 0 (f .1 .1 .1 .1 .0);
         };
-        rows = ltb-false MAX-ROWS (z .parents) (f .0);
-        log = ltb-false MAX-ENTRIES (z .kinds) (f .1 .1 .1 .1 .0);
-        count = ltb-false (z .parents) (s .count) (f .1 .1 .1 .1 .1 .1 .1 .1 .1 .1 .0);
-        used = ltb-false (z .kinds) (s .used) (f .1 .1 .1 .1 .1 .1 .1 .1 .1 .1 .1 .0);
-        opened = ltb-false MAX-OPEN (s .«open») (f .1 .1 .1 .1 .1 .1 .1 .1 .1 .1 .1 .1 .0);
-        shut = unused (s .«open») (s .used) (f .1 .1 .1 .1 .1 .1 .1 .1 .1 .1 .1 .1 .1 .0);
+        count = ltb-false (z .parents) (h .count) (f .1 .1 .1 .1 .1 .0);
+        used = ltb-false (z .log / ENTRY) (h .used) (f .1 .1 .1 .1 .1 .1 .0);
+        opened = ltb-false MAX-OPEN (h .«open») (f .1 .1 .1 .1 .1 .1 .1 .0);
+        shut = unused (h .«open») (h .used) (f .1 .1 .1 .1 .1 .1 .1 .1 .0);
       }
 
-  pub not-good : (Good z s → ⊥) → bad z s ≡ true
-  not-good n = go (bad z s) refl
+  pub not-good : (Good z h → ⊥) → bad z h ≡ true
+  not-good n = go (bad z h) refl
     where
-      go : (b : Bool) → bad z s ≡ b → bad z s ≡ true
+      go : (b : Bool) → bad z h ≡ b → bad z h ≡ true
       go true e = e
       go false e = absurd (n (bad-good e))

@@ -1,4 +1,4 @@
--- How a function's contract speaks of a table: the ten lent slices, at entry and at exit.
+-- How a function's contract speaks of a table: the four lent slices, at entry and at exit.
 use mathlib.Core.List.{List}
 use Prim.Native.Nat.{ℕ}
 use denote.Ref.{RefT, now}
@@ -16,42 +16,37 @@ Slice = RefT (List ℕ)
 abbrev pub Lent : Type 0
 Lent = Both Slice Slice
 
-abbrev pub rowsNow : Slice → Slice → Slice → Slice → Rows
-rowsNow p r o a = record { parents = now p; ranks = now r; owners = now o; amounts = now a }
-
-abbrev pub logNow : Slice → Slice → Slice → Slice → Slice → Slice → Log
-logNow k i p r o a = record { kinds = now k; keys = now i; old = rowsNow p r o a }
+abbrev pub rowsNow : Slice → Slice → Slice → Rows
+rowsNow p c a = record { parents = now p; crowns = now c; amounts = now a }
 
 -- The memory in a `requires`, over the open snapshots and the used log; and the table, over the state.
-abbrev pub memoryNow : Slice → Slice → Slice → Slice → Slice → Slice → Slice → Slice → Slice → Slice → ℕ → ℕ → Memory
-memoryNow p r o a k i op or oo oa = memory (rowsNow p r o a) (logNow k i op or oo oa)
+abbrev pub memoryNow : Slice → Slice → Slice → Slice → ℕ → ℕ → Memory
+memoryNow p c a l = memory (rowsNow p c a) (now l)
 
-abbrev pub tableNow : Slice → Slice → Slice → Slice → Slice → Slice → Slice → Slice → Slice → Slice → State → Table
-tableNow p r o a k i op or oo oa = table (rowsNow p r o a) (logNow k i op or oo oa)
+abbrev pub tableNow : Slice → Slice → Slice → Slice → State → Table
+tableNow p c a l = table (rowsNow p c a) (now l)
 
 -- In an `ensures`: the rows, the log, the memory and the table at both ends.
-abbrev pub rowsLent : Lent → Lent → Lent → Lent → Both Rows Rows
-rowsLent p r o a =
-    record { entry = rowsNow (p .entry) (r .entry) (o .entry) (a .entry); exit = rowsNow (p .exit) (r .exit) (o .exit) (a .exit) }
+abbrev pub rowsLent : Lent → Lent → Lent → Both Rows Rows
+rowsLent p c a =
+    record { entry = rowsNow (p .entry) (c .entry) (a .entry); exit = rowsNow (p .exit) (c .exit) (a .exit) }
 
-abbrev pub logLent : Lent → Lent → Lent → Lent → Lent → Lent → Both Log Log
-logLent k i p r o a =
+abbrev pub logLent : Lent → Both Log Log
+logLent l = record { entry = now (l .entry); exit = now (l .exit) }
+
+abbrev pub memoryLent : Lent → Lent → Lent → Lent → Both (ℕ → ℕ → Memory) (ℕ → ℕ → Memory)
+memoryLent p c a l =
     record {
-      entry = logNow (k .entry) (i .entry) (p .entry) (r .entry) (o .entry) (a .entry);
-      exit = logNow (k .exit) (i .exit) (p .exit) (r .exit) (o .exit) (a .exit);
+      entry = memoryNow (p .entry) (c .entry) (a .entry) (l .entry);
+      exit = memoryNow (p .exit) (c .exit) (a .exit) (l .exit);
     }
 
-abbrev pub memoryLent : Lent → Lent → Lent → Lent → Lent → Lent → Lent → Lent → Lent → Lent → Both (ℕ → ℕ → Memory) (ℕ → ℕ → Memory)
-memoryLent p r o a k i op or oo oa =
-    let rs = rowsLent p r o a in
-    let l = logLent k i op or oo oa in
-    record { entry = memory (rs .entry) (l .entry); exit = memory (rs .exit) (l .exit) }
-
-abbrev pub tableLent : Lent → Lent → Lent → Lent → Lent → Lent → Lent → Lent → Lent → Lent → Both (State → Table) (State → Table)
-tableLent p r o a k i op or oo oa =
-    let rs = rowsLent p r o a in
-    let l = logLent k i op or oo oa in
-    record { entry = table (rs .entry) (l .entry); exit = table (rs .exit) (l .exit) }
+abbrev pub tableLent : Lent → Lent → Lent → Lent → Both (State → Table) (State → Table)
+tableLent p c a l =
+    record {
+      entry = tableNow (p .entry) (c .entry) (a .entry) (l .entry);
+      exit = tableNow (p .exit) (c .exit) (a .exit) (l .exit);
+    }
 
 -- What a public function answers, over what it leaves in the lent slices.
 abbrev pub outcomeOf : Answered → (State → Table) → Outcome

@@ -8,6 +8,17 @@ MAX-ROWS = 65536
 abbrev pub MAX-ENTRIES : ℕ
 MAX-ENTRIES = 1048576
 
+-- How many numbers of `crowns` a row has, and how many of the log an entry has.
+abbrev pub CROWN : ℕ
+CROWN = 2
+
+abbrev pub ENTRY : ℕ
+ENTRY = 7
+
+-- An amount in the log is its low word and this many times its high one.
+abbrev pub WORD : ℕ
+WORD = 4294967296
+
 abbrev pub MAX-OPEN : ℕ
 MAX-OPEN = 32
 

@@ -1,8 +1,7 @@
 -- Document 01, "Rules of the rows": what a call on rows would answer and write, were there room in the log.
-use mathlib.Core.Bool.{Bool, true, false, cond, _||_}
+use mathlib.Core.Bool.{Bool, false, cond, _||_}
 use mathlib.Core.List.{List, [], _∷_, _++_}
 use Prim.Native.Nat.{ℕ, _+_}
-use lib.ListN.{length}
 use lib.Dec.{eqb, ltb}
 use Rattle.rules.specs.declared.call.Answer.{Answer}
 use Rattle.rules.specs.declared.table.Value.{Value}
@@ -10,7 +9,7 @@ use Rattle.rules.specs.declared.table.Merged.{Merged}
 use Rattle.rules.specs.declared.table.Merged.the-variants.{Clash, TooMuch, Both}
 use Rattle.rules.specs.Numbers.{DONE, BROKEN-TABLE, OWNER-CLASH, TOO-MUCH, MAX-REDIRECTS, MAX-RANK}
 use Rattle.rules.specs.Lent.{Rows, valueOf, rowAt}
-use Rattle.rules.specs.Answer.{answer, refusal, stepped, found, probed, said}
+use Rattle.rules.specs.Answer.{refusal, stepped, found, probed, held, said}
 use Rattle.rules.specs.Merge.{merge}
 use Rattle.rules.specs.Walk.{Path, broken, to, path, steps}
 use Rattle.rules.specs.Write.{Write, redirect, crown, writes}
@@ -110,4 +109,4 @@ probeKeyOn w = plan (probed (w .root) (valueOf (rowAt (w .rows) (w .root))) (w .
 abbrev pub tryProbe : Rows → ℕ → Plan
 tryProbe rs key =
     let r = rowAt rs key in
-    plan (cond (eqb (r .parent) key) (answer DONE 0 0 (valueOf r) 0 true 0 0) (said false 0)) []
+    plan (cond (eqb (r .parent) key) (held (valueOf r)) (said false 0)) []

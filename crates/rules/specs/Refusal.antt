@@ -1,13 +1,13 @@
 -- Document 01, "Numbers of refusal": BAD_STATE over all that is lent, and what a refusal leaves.
 use mathlib.Core.Bool.{Bool, true, false, cond, not}
 use mathlib.Core.List.{List, [], _∷_}
-use Prim.Native.Nat.{ℕ}
+use Prim.Native.Nat.{ℕ, _*_, _%_, _/_}
 use lib.ListN.{length}
 use lib.Dec.{eqb, ltb}
 use Rattle.rules.specs.declared.call.Answer.{Answer}
-use Rattle.rules.specs.declared.table.State.{State}
-use Rattle.rules.specs.Numbers.{LOG-FULL, MAX-ROWS, MAX-ENTRIES, MAX-OPEN}
-use Rattle.rules.specs.Lent.{Rows, Log, Table}
+use Rattle.rules.specs.declared.table.Head.{Head}
+use Rattle.rules.specs.Numbers.{LOG-FULL, MAX-ROWS, MAX-ENTRIES, MAX-OPEN, CROWN, ENTRY}
+use Rattle.rules.specs.Lent.{Rows, Log, Table, headOf}
 use Rattle.rules.specs.Write.{memoryOf, withMemory, full, puts}
 use Rattle.rules.specs.Answer.{refusal}
 use Rattle.rules.specs.Plan.{Plan}
@@ -33,28 +33,18 @@ carry t p = refuse (full (memoryOf t) (length (p .todo))) LOG-FULL t (outcome (p
 
 -- ---- BAD_STATE
 
--- The lengths of the ten lent parts.
+-- The lengths of the four lent parts, in numbers.
 pub record Sizes : Type 0 where
   pub parents : ℕ
-  pub ranks : ℕ
-  pub owners : ℕ
+  pub crowns : ℕ
   pub amounts : ℕ
-  pub kinds : ℕ
-  pub keys : ℕ
-  pub old-parents : ℕ
-  pub old-ranks : ℕ
-  pub old-owners : ℕ
-  pub old-amounts : ℕ
+  pub log : ℕ
 
-abbrev pub sizes : ℕ → ℕ → ℕ → ℕ → ℕ → ℕ → ℕ → ℕ → ℕ → ℕ → Sizes
-sizes p r o a k i op or oo oa =
-    record { parents = p; ranks = r; owners = o; amounts = a; kinds = k; keys = i; old-parents = op; old-ranks = or; old-owners = oo; old-amounts = oa }
+abbrev pub sizes : ℕ → ℕ → ℕ → ℕ → Sizes
+sizes p c a l = record { parents = p; crowns = c; amounts = a; log = l }
 
-abbrev pub sizesOf : Table → Sizes
-sizesOf t =
-    sizes (length (t .rows .parents)) (length (t .rows .ranks)) (length (t .rows .owners)) (length (t .rows .amounts))
-    (length (t .log .kinds)) (length (t .log .keys))
-    (length (t .log .old .parents)) (length (t .log .old .ranks)) (length (t .log .old .owners)) (length (t .log .old .amounts))
+abbrev pub sizesOf : Rows → Log → Sizes
+sizesOf rs l = sizes (length (rs .parents)) (length (rs .crowns)) (length (rs .amounts)) (length l)
 
 abbrev pub any : List Bool → Bool
 any [] = false
@@ -64,24 +54,23 @@ abbrev pub differ : ℕ → ℕ → Bool
 differ a b = not (eqb a b)
 
 -- "rows or log above the limits, lent parts of unequal length, count above rows, used above log, open above 32, or nothing open
--- and used not 0"
-abbrev pub faults : Sizes → State → List Bool
-faults z s =
+-- and used not 0". Parts are of unequal length where not every row has its parent, its crown and its amount, or the log ends inside
+-- an entry (docs/DECISIONS.md, 2).
+abbrev pub faults : Sizes → Head → List Bool
+faults z h =
     ltb MAX-ROWS (z .parents)
-    ∷ differ (z .ranks) (z .parents)
-    ∷ differ (z .owners) (z .parents)
+    ∷ ltb (MAX-ENTRIES * ENTRY) (z .log)
+    ∷ differ (z .crowns) (z .parents * CROWN)
     ∷ differ (z .amounts) (z .parents)
-    ∷ ltb MAX-ENTRIES (z .kinds)
-    ∷ differ (z .keys) (z .kinds)
-    ∷ differ (z .old-parents) (z .kinds)
-    ∷ differ (z .old-ranks) (z .kinds)
-    ∷ differ (z .old-owners) (z .kinds)
-    ∷ differ (z .old-amounts) (z .kinds)
-    ∷ ltb (z .parents) (s .count)
-    ∷ ltb (z .kinds) (s .used)
-    ∷ ltb MAX-OPEN (s .«open»)
-    ∷ cond (eqb (s .«open») 0) (differ (s .used) 0) false
+    ∷ differ (z .log % ENTRY) 0
+    ∷ ltb (z .parents) (h .count)
+    ∷ ltb (z .log / ENTRY) (h .used)
+    ∷ ltb MAX-OPEN (h .«open»)
+    ∷ cond (eqb (h .«open») 0) (differ (h .used) 0) false
     ∷ []
 
-unfoldable pub bad : Sizes → State → Bool
-bad z s = any (faults z s)
+unfoldable pub bad : Sizes → Head → Bool
+bad z h = any (faults z h)
+
+abbrev pub badTable : Table → Bool
+badTable t = bad (sizesOf (t .rows) (t .log)) (headOf (t .state))

@@ -8,12 +8,12 @@ use Rattle.rules.specs.declared.call.Call.the-variants.{New, Len, Find, 
 use Rattle.rules.specs.declared.call.Answered.{Answered}
 use Rattle.rules.specs.declared.table.Value.{Value}
 use Rattle.rules.specs.Numbers.{DONE, NO-KEY, KEYS-FULL, LOG-FULL, NOT-INNERMOST, BROKEN-TABLE, BAD-STATE}
-use Rattle.rules.specs.Lent.{Table, table, ownerOf, value, row, counting}
+use Rattle.rules.specs.Lent.{Table, table, ownerOf, value, row, head, headOf, withHead}
 use Rattle.rules.specs.Answer.{refusal, found}
 use Rattle.rules.specs.Write.{memoryOf, push, full}
 use Rattle.rules.specs.Plan.{Plan, Walked, walk, walkBoth, findOn, unionedOn, joinOn, postOn, probeOn, probeKeyOn, tryProbe}
 use Rattle.rules.specs.Tokens.{len, snapshot, commit, keysSince, actionsSince, hasChanges, innermost, notInnermost, unfit, since, undoable, undo, rolledBack}
-use Rattle.rules.specs.Refusal.{Outcome, outcome, refuse, carry, sizesOf, bad}
+use Rattle.rules.specs.Refusal.{Outcome, outcome, refuse, carry, badTable}
 
 -- NO_KEY: "a named key is not below the count"
 abbrev pub notLive : Table → ℕ → Bool
@@ -24,7 +24,7 @@ abbrev pub grown : Table → Value → Table
 grown t v =
     let key = t .state .count in
     let m = push (memoryOf t) key (row key 0 v) in
-    table (m .rows) (m .log) (counting (t .state) (key + 1) (m .used) (t .state .«open»))
+    table (m .rows) (m .log) (withHead (t .state) (head (key + 1) (m .used) (t .state .«open»)))
 
 abbrev pub new : Table → Value → Outcome
 new t v =
@@ -50,10 +50,10 @@ abbrev pub rollback : Table → ℕ → Outcome
 rollback t token =
     let s = t .state in
     let m = innermost s in
-    let es = since (t .log) s m in
+    let es = since (t .log) (headOf s) m in
     refuse (notInnermost s token) NOT-INNERMOST t
-    (refuse (unfit s m || not (undoable (m .keys) (s .count) es)) BROKEN-TABLE t
-    (outcome (refusal DONE) (table (undo (t .rows) es) (t .log) (rolledBack s m))))
+    (refuse (unfit (headOf s) m || not (undoable (m .keys) (s .count) es)) BROKEN-TABLE t
+    (outcome (refusal DONE) (table (undo (t .rows) es) (t .log) (withHead s (rolledBack (headOf s) m)))))
 
 -- A call on a table whose state and lent parts are not bad.
 unfoldable pub call : Table → Call → Outcome
@@ -75,4 +75,4 @@ call t (Changes token) = resting t (hasChanges (t .state) token)
 
 -- Any call on any table whatever: BAD_STATE comes before all else.
 unfoldable pub step : Table → Call → Outcome
-step t c = refuse (bad (sizesOf t) (t .state)) BAD-STATE t (call t c)
+step t c = refuse (badTable t) BAD-STATE t (call t c)

@@ -1,7 +1,7 @@
 -- Document 01, "Rules of the log and the tokens": marks, what is undone, and what lies since a snapshot.
 use mathlib.Core.Bool.{Bool, true, false, cond, _&&_, _||_}
 use mathlib.Core.List.{List, [], _∷_}
-use Prim.Native.Nat.{ℕ, zero, suc, _+_, _-_}
+use Prim.Native.Nat.{ℕ, zero, suc, _+_, _-_, _*_}
 use lib.ListN.{set, take, drop}
 use lib.Dec.{eqb, ltb}
 use Rattle.rules.specs.declared.table.UndoLog.{UndoLog}
@@ -9,11 +9,12 @@ use Rattle.rules.specs.declared.table.UndoLog.the-variants.{NewElem, Set
 use Rattle.rules.specs.declared.table.Mark.{Mark}
 use Rattle.rules.specs.declared.table.Sought.{Sought}
 use Rattle.rules.specs.declared.table.Sought.the-variants.{Missing, Held}
+use Rattle.rules.specs.declared.table.Head.{Head}
 use Rattle.rules.specs.declared.table.State.{State}
 use Rattle.rules.specs.declared.call.Answer.{Answer}
 use Rattle.rules.specs.declared.call.Answered.{Answered}
-use Rattle.rules.specs.Numbers.{DONE, NOT-INNERMOST, TOO-DEEP, BROKEN-TABLE, SERIALS-SPENT, NOT-OPEN, MAX-OPEN, MAX-U64}
-use Rattle.rules.specs.Lent.{Rows, Log, entryAt, putRow, mark, markAt, counting}
+use Rattle.rules.specs.Numbers.{DONE, NOT-INNERMOST, TOO-DEEP, BROKEN-TABLE, SERIALS-SPENT, NOT-OPEN, MAX-OPEN, MAX-U64, ENTRY}
+use Rattle.rules.specs.Lent.{Rows, Log, entryAt, putRow, mark, markAt, head, headOf, withHead}
 use Rattle.rules.specs.Answer.{refusal, said, range, opened, answered, refuseState}
 
 -- "A snapshot's mark holds a serial, log length and key count. The token is the serial: first 1, then one more each time, never
@@ -43,8 +44,8 @@ seek s token zero = Missing
 seek s token (suc n) = cond (eqb (markAt s n .serial) token) (Held (markAt s n)) (seek s token n)
 
 -- BROKEN_TABLE: "the mark used has a log length above used or a key count above the count"
-abbrev pub unfit : State → Mark → Bool
-unfit s m = ltb (s .used) (m .«log_len») || ltb (s .count) (m .keys)
+abbrev pub unfit : Head → Mark → Bool
+unfit h m = ltb (h .used) (m .«log_len») || ltb (h .count) (m .keys)
 
 -- ---- the calls that neither read nor write rows and entries
 
@@ -55,23 +56,23 @@ snapshot s =
     (answered (opened (s .last + 1)) (marked s)))
 
 -- "Commit drops the mark and keeps the entries; committing the only open one empties the log."
-abbrev pub committed : State → State
-committed s = counting s (s .count) (cond (eqb (s .«open») 1) 0 (s .used)) (s .«open» - 1)
+abbrev pub committed : Head → Head
+committed h = head (h .count) (cond (eqb (h .«open») 1) 0 (h .used)) (h .«open» - 1)
 
 -- BROKEN_TABLE: "the only open mark has a log length other than 0 at commit"
-abbrev pub stranded : State → Mark → Bool
-stranded s m = eqb (s .«open») 1 && ltb 0 (m .«log_len»)
+abbrev pub stranded : Head → Mark → Bool
+stranded h m = eqb (h .«open») 1 && ltb 0 (m .«log_len»)
 
 abbrev pub commit : State → ℕ → Answered
 commit s token =
     refuseState (notInnermost s token) NOT-INNERMOST s
-    (refuseState (unfit s (innermost s) || stranded s (innermost s)) BROKEN-TABLE s
-    (answered (refusal DONE) (committed s)))
+    (refuseState (unfit (headOf s) (innermost s) || stranded (headOf s) (innermost s)) BROKEN-TABLE s
+    (answered (refusal DONE) (withHead s (committed (headOf s)))))
 
 -- A question about the mark that a token names.
 abbrev pub asked : State → (Mark → Answer) → Sought → Answered
 asked s reply Missing = answered (refusal NOT-OPEN) s
-asked s reply (Held m) = refuseState (unfit s m) BROKEN-TABLE s (answered (reply m) s)
+asked s reply (Held m) = refuseState (unfit (headOf s) m) BROKEN-TABLE s (answered (reply m) s)
 
 abbrev pub ask : State → ℕ → (Mark → Answer) → Answered
 ask s token reply = asked s reply (seek s token (s .«open»))
@@ -100,8 +101,8 @@ newestFirst l base zero = []
 newestFirst l base (suc n) = entryAt l (base + n) ∷ newestFirst l base n
 
 -- The entries down to the mark's log length.
-abbrev pub since : Log → State → Mark → List UndoLog
-since l s m = newestFirst l (m .«log_len») (s .used - m .«log_len»)
+abbrev pub since : Log → Head → Mark → List UndoLog
+since l h m = newestFirst l (m .«log_len») (h .used - m .«log_len»)
 
 -- BROKEN_TABLE: "an entry to be undone, newest first, is of no known kind, names a changed row not below the count then reached,
 -- or a new row other than the last, or the count left differs from the mark's". From `count` down to `keys`:
@@ -122,28 +123,15 @@ undo rs [] = rs
 undo rs (e ∷ es) = undo (reversed rs e) es
 
 -- "Rollback undoes entries newest first down to the mark's log length and drops the mark."
-abbrev pub rolledBack : State → Mark → State
-rolledBack s m = counting s (m .keys) (m .«log_len») (s .«open» - 1)
+abbrev pub rolledBack : Head → Mark → Head
+rolledBack h m = head (m .keys) (m .«log_len») (h .«open» - 1)
 
 -- ---- the view
 
 -- The view "of the log from the mark's length to its used end, entry by entry": entry i is `entryAt` of this part. Past its end,
 -- that is `Unknown`.
-abbrev pub part : ℕ → ℕ → List ℕ → List ℕ
-part a e l = take (e - a) (drop a l)
-
 abbrev pub viewed : Log → ℕ → ℕ → Log
-viewed l a e =
-    record {
-      kinds = part a e (l .kinds);
-      keys = part a e (l .keys);
-      old = record {
-        parents = part a e (l .old .parents);
-        ranks = part a e (l .old .ranks);
-        owners = part a e (l .old .owners);
-        amounts = part a e (l .old .amounts);
-      };
-    }
+viewed l from to = take (to * ENTRY - from * ENTRY) (drop (from * ENTRY) l)
 
 -- The view that a call hands out: the range that it answers. A refusal answers "the range 0 to 0 or an empty view", and that range
 -- cuts nothing.

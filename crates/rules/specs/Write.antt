@@ -2,13 +2,12 @@
 use mathlib.Core.Bool.{Bool, false, cond}
 use mathlib.Core.List.{List, [], _∷_}
 use Prim.Native.Nat.{ℕ, _+_, _-_}
-use lib.ListN.{length}
 use lib.Dec.{eqb, ltb}
 use Rattle.rules.specs.declared.table.Value.{Value}
 use Rattle.rules.specs.declared.table.Row.{Row}
 use Rattle.rules.specs.declared.table.UndoLog.{UndoLog}
 use Rattle.rules.specs.declared.table.UndoLog.the-variants.{NewElem, SetElem}
-use Rattle.rules.specs.Lent.{Rows, Log, Table, table, row, valueOf, rowAt, putRow, putEntry, counting}
+use Rattle.rules.specs.Lent.{Rows, Log, Table, table, entries, row, valueOf, rowAt, putRow, putEntry, head, withHead}
 
 -- A row is redirected, and keeps all else; or a root gets a rank and a value, and keeps its parent.
 pub data Write : Type 0 where
@@ -46,7 +45,7 @@ abbrev pub memoryOf : Table → Memory
 memoryOf t = memory (t .rows) (t .log) (t .state .«open») (t .state .used)
 
 abbrev pub withMemory : Table → Memory → Table
-withMemory t m = table (m .rows) (m .log) (counting (t .state) (t .state .count) (m .used) (t .state .«open»))
+withMemory t m = table (m .rows) (m .log) (withHead (t .state) (head (t .state .count) (m .used) (t .state .«open»)))
 
 -- "With none open nothing is logged."
 abbrev pub logged : UndoLog → Memory → Memory
@@ -72,4 +71,4 @@ puts m (w ∷ ws) = puts (put m w) ws
 
 -- LOG_FULL: "a snapshot is open and the entries this call would log exceed the free ones"
 abbrev pub full : Memory → ℕ → Bool
-full m n = cond (eqb (m .opened) 0) false (ltb (length (m .log .kinds) - m .used) n)
+full m n = cond (eqb (m .opened) 0) false (ltb (entries (m .log) - m .used) n)

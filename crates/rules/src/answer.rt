@@ -1,34 +1,24 @@
 ghost use mathlib.Core.Path.{_≡_};
 ghost use Rattle.rules.specs.Numbers.{DONE};
-ghost use Rattle.rules.specs.Lent.{none, value};
-ghost use Rattle.rules.specs.Answer.{answer, refusal, stepped, found, probed, said, range, opened, answered};
+ghost use Rattle.rules.specs.Lent.{none};
+ghost use Rattle.rules.specs.Answer.{answer, refusal, stepped, found, probed, held, said, range, opened, answerNumbers};
 use crate::call::Answer;
-use crate::call::Answered;
 use crate::numbers::DONE;
+use crate::owner::number_of;
 use crate::table::Owner;
-use crate::table::State;
 use crate::table::Value;
 
-// The nine numbers of an answer, the owner as an enum.
-pub fn answer(
-    no: u32,
-    key: u32,
-    token: u64,
-    value: Value,
-    steps: u32,
-    yes: bool,
-    from: u32,
-    to: u32,
-) -> Answer
-    ensures { λ r. ⌜ r ≡ answer no key token value steps yes from to ⌝ }
+// An answer without a value.
+fn plain(no: u32, key: u32, token: u64, steps: u32, yes: bool, from: u32, to: u32) -> Answer
+    ensures { λ r. ⌜ r ≡ answer no key token none steps yes from to ⌝ }
 {
-    let owner = value.owner;
+    let owner = Owner::Nobody;
     Answer {
         no,
         key,
         token,
         owner,
-        amount: value.amount,
+        amount: 0,
         steps,
         yes,
         from,
@@ -36,91 +26,99 @@ pub fn answer(
     }
 }
 
+// An answer with a value.
+fn valued(key: u32, value: Value, steps: u32, yes: bool) -> Answer
+    ensures { λ r. ⌜ r ≡ answer DONE key 0 value steps yes 0 0 ⌝ }
+{
+    let owner = value.owner;
+    Answer {
+        no: DONE,
+        key,
+        token: 0,
+        owner,
+        amount: value.amount,
+        steps,
+        yes,
+        from: 0,
+        to: 0,
+    }
+}
+
 // A number and the steps of the walks.
 pub fn stepped(no: u32, steps: u32) -> Answer
     ensures { λ r. ⌜ r ≡ stepped no steps ⌝ }
 {
-    let owner = Owner::Nobody;
-    let amount = 0;
-    answer(no, 0, 0, Value { owner, amount }, steps, false, 0, 0)
+    plain(no, 0, 0, steps, false, 0, 0)
 }
 
 // A refusal, or DONE where there is nothing to say.
 pub fn refusal(no: u32) -> Answer
     ensures { λ r. ⌜ r ≡ refusal no ⌝ }
 {
-    stepped(no, 0)
+    plain(no, 0, 0, 0, false, 0, 0)
 }
 
 pub fn found(root: u32, steps: u32) -> Answer
     ensures { λ r. ⌜ r ≡ found root steps ⌝ }
 {
-    let owner = Owner::Nobody;
-    let amount = 0;
-    answer(DONE, root, 0, Value { owner, amount }, steps, false, 0, 0)
-}
-
-pub fn probed(root: u32, value: Value, steps: u32) -> Answer
-    ensures { λ r. ⌜ r ≡ probed root value steps ⌝ }
-{
-    answer(DONE, root, 0, value, steps, false, 0, 0)
+    plain(DONE, root, 0, steps, false, 0, 0)
 }
 
 pub fn said(yes: bool, steps: u32) -> Answer
     ensures { λ r. ⌜ r ≡ said yes steps ⌝ }
 {
-    let owner = Owner::Nobody;
-    let amount = 0;
-    answer(DONE, 0, 0, Value { owner, amount }, steps, yes, 0, 0)
+    plain(DONE, 0, 0, steps, yes, 0, 0)
 }
 
-// A refusal beside the state as it came.
-pub fn refused(no: u32, state: State) -> Answered
-    ensures { λ r. ⌜ r ≡ answered (refusal no) state ⌝ }
+pub fn range(from: u32, to: u32) -> Answer
+    ensures { λ r. ⌜ r ≡ range from to ⌝ }
 {
-    reported(no, 0, false, 0, 0, state)
+    plain(DONE, 0, 0, 0, false, from, to)
 }
 
-// DONE, with nothing to say.
-pub fn done(state: State) -> Answered
-    ensures { λ r. ⌜ r ≡ answered (refusal DONE) state ⌝ }
+pub fn opened(token: u64) -> Answer
+    ensures { λ r. ⌜ r ≡ opened token ⌝ }
 {
-    reported(DONE, 0, false, 0, 0, state)
+    plain(DONE, 0, token, 0, false, 0, 0)
 }
 
-pub fn opened(token: u64, state: State) -> Answered
-    ensures { λ r. ⌜ r ≡ answered (opened token) state ⌝ }
+pub fn probed(root: u32, value: Value, steps: u32) -> Answer
+    ensures { λ r. ⌜ r ≡ probed root value steps ⌝ }
 {
-    reported(DONE, token, false, 0, 0, state)
+    valued(root, value, steps, false)
 }
 
-pub fn told(yes: bool, state: State) -> Answered
-    ensures { λ r. ⌜ r ≡ answered (said yes 0) state ⌝ }
+// The value of a row that is a root, told apart from nothing.
+pub fn held(value: Value) -> Answer
+    ensures { λ r. ⌜ r ≡ held value ⌝ }
 {
-    reported(DONE, 0, yes, 0, 0, state)
+    valued(0, value, 0, true)
 }
 
-pub fn ranged(from: u32, to: u32, state: State) -> Answered
-    ensures { λ r. ⌜ r ≡ answered (range from to) state ⌝ }
-{
-    reported(DONE, 0, false, from, to, state)
-}
+// How many fields an answer has.
+pub const ANSWER: usize = 9;
 
-// An answer that names no key and no value, beside the state that goes with it.
-fn reported(no: u32, token: u64, yes: bool, from: u32, to: u32, state: State) -> Answered
-    ensures { λ r. ⌜ r ≡ answered (answer no 0 token none 0 yes from to) state ⌝ }
+// The fields of an answer as numbers, in their order: the one list of them.
+pub fn answer_numbers(answer: Answer) -> [u64; 9]
+    ensures { λ r. ⌜ r ≡ answerNumbers answer ⌝ }
 {
-    let owner = Owner::Nobody;
-    let answer = Answer {
+    let owner = answer.owner;
+    let whose = number_of(owner) as u64;
+    let no = answer.no as u64;
+    let key = answer.key as u64;
+    let steps = answer.steps as u64;
+    let yes = answer.yes as u64;
+    let from = answer.from as u64;
+    let to = answer.to as u64;
+    [
         no,
-        key: 0,
-        token,
-        owner,
-        amount: 0,
-        steps: 0,
+        key,
+        answer.token,
+        whose,
+        answer.amount,
+        steps,
         yes,
         from,
         to,
-    };
-    Answered { answer, state }
+    ]
 }

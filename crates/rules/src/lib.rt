@@ -3,4 +3,5 @@
 pub mod answer;
 pub mod call;
 pub mod numbers;
+pub mod owner;
 pub mod table;

@@ -3,6 +3,14 @@ pub const MAX_ROWS: usize = 65536;
 
 pub const MAX_ENTRIES: usize = 1048576;
 
+// How many numbers of `crowns` a row has, and how many of `log` an entry has.
+pub const CROWN: usize = 2;
+
+pub const ENTRY: usize = 7;
+
+// An amount in the log is its low word and this many times its high one.
+pub const WORD: u64 = 4294967296;
+
 pub const MAX_OPEN: u32 = 32;
 
 pub const MAX_REDIRECTS: u32 = 16;

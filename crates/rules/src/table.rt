@@ -46,6 +46,13 @@ pub enum Sought {
     Held(Mark),
 }
 
+// A state without its serials and marks: how many keys and entries there are, and how many snapshots are open.
+pub struct Head {
+    pub count: u32,
+    pub used: u32,
+    pub open: u32,
+}
+
 // All of a table that is not lent. `marks[0]` is the outermost snapshot's.
 pub struct State {
     pub count: u32,

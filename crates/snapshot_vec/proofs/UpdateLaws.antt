@@ -1,15 +1,25 @@
--- Laws of a row's write: first the entry, then the columns. Assumes nothing.
+-- Laws of writes: an entry's, and a row's, first its entry and then its parts. Assumes nothing.
 use mathlib.Core.Path.{_≡_, ap, _∙_}
-use Prim.Native.Nat.{ℕ, _+_}
+use mathlib.Core.List.{List}
+use Prim.Native.Nat.{ℕ, _+_, _*_}
 use lib.ListN.{set}
 use borrow.Author.Tests.{eq-eqb, ne-eqb}
 use Rattle.rules.specs.declared.table.UndoLog.{UndoLog}
 use Rattle.rules.specs.declared.table.UndoLog.the-variants.{NewElem, SetElem}
 use Rattle.rules.specs.declared.table.Row.{Row}
 use Rattle.rules.specs.declared.table.Value.{Value}
-use Rattle.rules.specs.Lent.{Rows, Log, rowAt, numberOf, putRow, putEntry}
+use Rattle.rules.specs.Numbers.{ENTRY}
+use Rattle.rules.specs.Lent.{Rows, Log, rowAt, putCrown, putRow, putOld, putEntry}
 use Rattle.rules.specs.Write.{Memory, memory, logged, put, push, redirect, crown}
 use Rattle.rules.proofs.RowLaws.{write-redirect, write-crown}
+use Rattle.snapshot_vec.specs.declared.entries.Numbers.{Numbers}
+use Rattle.snapshot_vec.specs.Numbers.{numbersOf}
+
+-- kind and key are stored, and the old row is put
+pub stored : (l : Log) (i : ℕ) (e : UndoLog) (n : Numbers) (w : Log) → n ≡ numbersOf e
+    → w ≡ putOld (set (set l (i * ENTRY) (n .kind)) (i * ENTRY + 1) (n .key)) (i * ENTRY) (n .old)
+    → w ≡ putEntry l i e
+stored l i e n w q p = rw (p, q)
 
 -- nothing is logged with no snapshot open
 pub logged-shut : (e : UndoLog) (rs : Rows) (l : Log) (o u : ℕ) → o ≡ 0 → memory rs l o u ≡ logged e (memory rs l o u)
@@ -27,23 +37,21 @@ logged-row m i old q e = e ∙ ap (λ (r : Row). logged (SetElem i r) m) q
 module _ (m : Memory) (key : ℕ) (m′ : Memory) (e : m′ ≡ logged (SetElem key (rowAt (m .rows) key)) m) where
   -- then its parent is written
   pub redirected : (root : ℕ)
-      → memory (record { parents = set (m′ .rows .parents) key root; ranks = m′ .rows .ranks; owners = m′ .rows .owners; amounts = m′ .rows .amounts })
-      (m′ .log) (m′ .opened) (m′ .used)
+      → memory (record { parents = set (m′ .rows .parents) key root; crowns = m′ .rows .crowns; amounts = m′ .rows .amounts }) (m′ .log) (m′ .opened) (m′ .used)
       ≡ put m (redirect key root)
   redirected root = rw (e, write-redirect (m .rows) key root)
 
   -- or its rank and value
-  pub crowned : (rank number : ℕ) (v : Value) → number ≡ numberOf (v .owner)
+  pub crowned : (rank : ℕ) (v : Value) (crowns : List ℕ) → crowns ≡ putCrown (m′ .rows .crowns) key rank (v .owner)
       → memory
       (record {
         parents = m′ .rows .parents;
-        ranks = set (m′ .rows .ranks) key rank;
-        owners = set (m′ .rows .owners) key number;
+        crowns = crowns;
         amounts = set (m′ .rows .amounts) key (v .amount);
       })
       (m′ .log) (m′ .opened) (m′ .used)
       ≡ put m (crown key rank v)
-  crowned rank number v q = rw (e, q, write-crown (m .rows) key rank v)
+  crowned rank v crowns q = rw (q, e, write-crown (m .rows) key rank v)
 
 -- a new key's row is made
 pub push-is : (m : Memory) (key : ℕ) (r : Row) (m′ : Memory) (rs : Rows) → m′ ≡ logged (NewElem key) m → rs ≡ putRow (m .rows) key r

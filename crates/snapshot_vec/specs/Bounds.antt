@@ -1,24 +1,27 @@
 -- What the leaves ask of their callers: that an index lies within what is lent.
 use mathlib.Core.Path.{_≡_}
-use Prim.Native.Nat.{ℕ, _<_}
+use Prim.Native.Nat.{ℕ, _+_, _*_, _≤_, _<_}
 use lib.ListN.{length}
 use Rattle.rules.specs.declared.table.UndoLog.{UndoLog}
 use Rattle.rules.specs.declared.table.UndoLog.the-variants.{NewElem, SetElem, Unknown}
-use Rattle.rules.specs.Numbers.{MAX-ENTRIES}
+use Rattle.rules.specs.Numbers.{CROWN, ENTRY, MAX-ENTRIES}
 use Rattle.rules.specs.Lent.{Rows, Log}
 
 -- i is a row
 pub record InRows (i : ℕ) (rs : Rows) : Type 0 where
   pub parents : i < length (rs .parents)
-  pub ranks : i < length (rs .ranks)
-  pub owners : i < length (rs .owners)
+  pub crowns : i * CROWN + CROWN ≤ length (rs .crowns)
   pub amounts : i < length (rs .amounts)
+
+-- the first `count` rows are within all parts
+pub record Even (count : ℕ) (rs : Rows) : Type 0 where
+  pub parents : count ≤ length (rs .parents)
+  pub crowns : count * CROWN ≤ length (rs .crowns)
+  pub amounts : count ≤ length (rs .amounts)
 
 -- u is an entry of the log
 pub record InLog (u : ℕ) (l : Log) : Type 0 where
-  pub kinds : u < length (l .kinds)
-  pub keys : u < length (l .keys)
-  pub old : InRows u (l .old)
+  pub words : u * ENTRY + ENTRY ≤ length l
   pub limit : u < MAX-ENTRIES
 
 -- where a snapshot is open, u is an entry of the log

@@ -1,8 +1,12 @@
 ghost use mathlib.Core.Path.{_≡_};
-ghost use Rattle.rules.specs.Lent.{entryAt, putEntry};
-ghost use Rattle.rules.specs.Contract.{logNow, logLent};
+ghost use Prim.Native.Nat.{_+_, _≤_};
+ghost use lib.ListN.{length};
+ghost use Rattle.rules.specs.Numbers.{ENTRY};
+ghost use Rattle.rules.specs.Lent.{oldAt, putOld, entryAt, putEntry};
+ghost use Rattle.rules.specs.Contract.{logLent};
 ghost use Rattle.snapshot_vec.specs.Bounds.{InLog};
 ghost use Rattle.snapshot_vec.specs.Numbers.{numbersOf};
+use rules::numbers::ENTRY;
 use rules::numbers::KIND_NEW;
 use rules::numbers::KIND_SET;
 use rules::numbers::KIND_UNKNOWN;
@@ -10,27 +14,50 @@ use rules::table::Owner;
 use rules::table::Row;
 use rules::table::UndoLog;
 
-// Entry `i` by value: the enum's own case where it is of no known kind.
-pub fn entry_at(
-    logkinds: &[u32],
-    logkeys: &[u32],
-    logparents: &[u32],
-    logranks: &[u32],
-    logowners: &[u32],
-    logamounts: &[u64],
-    i: u32,
-) -> UndoLog
-    requires { ⌜ InLog i (logNow logkinds logkeys logparents logranks logowners logamounts) ⌝ }
-    ensures { let log = logLent logkinds logkeys logparents logranks logowners logamounts in λ r. ⌜ r ≡ entryAt (log .entry) i ⌝ }
+// The old row of the entry that starts at `base`.
+pub fn old_at(log: &[u32], base: usize) -> Row
+    requires { ⌜ base + ENTRY ≤ length (now log) ⌝ }
+    ensures { let l = logLent log in λ r. ⌜ r ≡ oldAt (l .entry) base ⌝ }
 {
-    let at = i as usize;
-    let kind = logkinds[at];
-    let key = logkeys[at];
+    let owner = rules::owner::owner_of(log[base + 4]);
+    let amount = crate::amounts::amount_of(log[base + 5], log[base + 6]);
+    Row {
+        parent: log[base + 2],
+        rank: log[base + 3],
+        owner,
+        amount,
+    }
+}
+
+// Writes the old row of the entry that starts at `base`.
+pub fn put_old(log: &mut [u32], base: usize, row: Row)
+    requires { ⌜ base + ENTRY ≤ length (now log) ⌝ }
+    ensures { let l = logLent log in λ r. ⌜ l .exit ≡ putOld (l .entry) base row ⌝ }
+{
+    let owner = row.owner;
+    let number = rules::owner::number_of(owner);
+    let low = crate::amounts::low_of(row.amount);
+    let high = crate::amounts::high_of(row.amount);
+    log[base + 2] = row.parent;
+    log[base + 3] = row.rank;
+    log[base + 4] = number;
+    log[base + 5] = low;
+    log[base + 6] = high;
+}
+
+// Entry `i` by value: the enum's own case where it is of no known kind.
+pub fn entry_at(log: &[u32], i: u32) -> UndoLog
+    requires { ⌜ InLog i (now log) ⌝ }
+    ensures { let l = logLent log in λ r. ⌜ r ≡ entryAt (l .entry) i ⌝ }
+{
+    let base = i as usize * ENTRY;
+    let kind = log[base];
+    let key = log[base + 1];
     if kind == KIND_NEW {
         return UndoLog::NewElem(key);
     }
     if kind == KIND_SET {
-        let old = crate::rows::row_at(logparents, logranks, logowners, logamounts, i);
+        let old = old_at(log, base);
         return UndoLog::SetElem(key, old);
     }
     UndoLog::Unknown
@@ -74,23 +101,14 @@ pub fn numbers_of(entry: UndoLog) -> Numbers
 }
 
 // Writes all of entry `i`.
-pub fn put_entry(
-    logkinds: &mut [u32],
-    logkeys: &mut [u32],
-    logparents: &mut [u32],
-    logranks: &mut [u32],
-    logowners: &mut [u32],
-    logamounts: &mut [u64],
-    i: u32,
-    entry: UndoLog,
-)
-    requires { ⌜ InLog i (logNow logkinds logkeys logparents logranks logowners logamounts) ⌝ }
-    ensures { let log = logLent logkinds logkeys logparents logranks logowners logamounts in λ r. ⌜ log .exit ≡ putEntry (log .entry) i entry ⌝ }
+pub fn put_entry(log: &mut [u32], i: u32, entry: UndoLog)
+    requires { ⌜ InLog i (now log) ⌝ }
+    ensures { let l = logLent log in λ r. ⌜ l .exit ≡ putEntry (l .entry) i entry ⌝ }
 {
-    let at = i as usize;
+    let base = i as usize * ENTRY;
     let word = numbers_of(entry);
-    logkinds[at] = word.kind;
-    logkeys[at] = word.key;
+    log[base] = word.kind;
+    log[base + 1] = word.key;
     let old = word.old;
-    crate::rows::put_row(logparents, logranks, logowners, logamounts, i, old);
+    put_old(log, base, old);
 }

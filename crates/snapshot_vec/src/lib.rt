@@ -1,5 +1,5 @@
-// Rows and undo entries: read from and written to the lent slices, logged and undone. From ena's `snapshot_vec`.
+// Rows and undo entries: read from and written to the lent slices, logged and undone.
+pub mod amounts;
 pub mod entries;
-pub mod owners;
 pub mod rows;
 pub mod update;

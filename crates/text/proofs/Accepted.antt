@@ -1,140 +1,68 @@
 -- No number above its width is accepted: a line that makes a command has a form's name for its first word and as many words after it as
--- the form has places, and each of these stands for the decimal value of its digits, below the width of its place. Assumes nothing.
-use mathlib.Core.Bool.{Bool, true, false, cond, _&&_}
-use mathlib.Core.List.{List, [], _∷_, map, List·Memᴰ, List·Memᴰ·head, List·Memᴰ·tail}
-use mathlib.Core.Option.{Option, none, some}
-use mathlib.Core.Path.{_≡_, refl, ap, subst, _∙_}
-use Prim.Native.Nat.{ℕ, zero, suc, _+_, _*_, _<_}
+-- the form has places, and each of these stands for the decimal value of its digits, within the width of its place. Assumes nothing.
+use mathlib.Core.Bool.{Bool, true, false, cond}
+use mathlib.Core.List.{List, [], _∷_}
+use mathlib.Core.Path.{_≡_, refl, ap, sym, _∙_}
+use Prim.Native.Nat.{ℕ, _≤_, _<_}
 use native.Mathlib.Omega.{arith}
-use borrow.Author.Tests.{eqb-true, ltb-true}
-use lib.Dec.{eqb, ltb}
-use lib.ListN.{length, getD}
-use Rattle.rules.specs.Numbers.{MAX-U64}
-use Rattle.text.proofs.NamedLaws.{both, same-bytes}
-use Rattle.text.specs.Bytes.{sameBytes}
-use Rattle.text.specs.Command.{chosen, commandOf, fit, Form, forms, named, numbersOf, ofWords, withNumber, withNumbers}
-use Rattle.text.specs.Line.{words}
-use Rattle.text.specs.Numeral.{decimal, digitOf, numeral, onward}
-use Rattle.text.specs.declared.command.Command.{Command}
+use native.Mathlib.Decide.{decLt}
+use lib.Dec.{eqb}
+use lib.ListN.{length, length-map, getD, List·getD-eq-default, List·getD-map}
+use Rattle.text.proofs.CommandLaws.{either}
+use Rattle.text.proofs.LineLaws.{placed}
+use Rattle.text.proofs.NumeralLaws.{both, in-limit}
+use Rattle.text.specs.Command.{commandOf, fit, Form, formAt, forms, limit, commandWith, names, ofWords, Width}
+use Rattle.text.specs.Line.{placeIn, words}
+use Rattle.text.specs.Numeral.{decimal, isNumeral}
 use Rattle.text.specs.declared.command.Command.the-variants.{Blank, Error}
-use Rattle.text.specs.declared.number.Number.{Number}
-use Rattle.text.specs.declared.number.Number.the-variants.{Not, Value}
 
 -- ---- the statement
 
--- the values of words of digits
-abbrev pub values : List (List ℕ) → List ℕ
-values ws = map (decimal 0) ws
-
--- as many numbers as widths, each below its own
-abbrev pub Below : List ℕ → List ℕ → Type 0
-Below [] [] = Unit {0}
-Below (n ∷ ns) (w ∷ ws) = (n < w) × Below ns ws
-Below [] (w ∷ ws) = ⊥
-Below (n ∷ ns) [] = ⊥
+-- as many words of digits as widths, the value of each within its own
+abbrev pub Within : List (List ℕ) → List Width → Type 0
+Within [] [] = Unit {0}
+Within (x ∷ xs) (w ∷ ws) = (decimal 0 x ≤ limit w) × Within xs ws
+Within [] (w ∷ ws) = ⊥
+Within (x ∷ xs) [] = ⊥
 
 pub record Accepted (line : List ℕ) : Type 0 where
-  pub form : Form
+  pub place : ℕ
   pub numbers : List (List ℕ)
-  pub listed : List·Memᴰ form forms
-  pub spelt : words line ≡ form .name ∷ numbers
-  pub below : Below (values numbers) (form .widths)
-  pub made : commandOf line ≡ form .makes (λ i. getD (values numbers) i 0)
+  pub listed : place < length forms
+  pub spelt : words line ≡ formAt place .name ∷ numbers
+  pub within : Within numbers (formAt place .widths)
+  pub makes : commandOf line ≡ formAt place .makes (λ i. decimal 0 (getD numbers i []))
 
 -- ---- its proof
 
--- a number that is read is its word's decimal value
-onward-value : (limit m n : ℕ) (w : List ℕ) → onward limit m w ≡ Value n → n ≡ decimal m w
-unfolding onward decimal
-onward-value limit m n [] e = cc
-onward-value limit m n (b ∷ bs) e = go (ltb 9 (digitOf b)) (ltb limit (m * 10 + digitOf b)) (onward-value limit (m * 10 + digitOf b) n bs) e
-  where
-    go : (s t : Bool) → (onward limit (m * 10 + digitOf b) bs ≡ Value n → n ≡ decimal (m * 10 + digitOf b) bs)
-        → cond s Not (cond t Not (onward limit (m * 10 + digitOf b) bs)) ≡ Value n → n ≡ decimal (m * 10 + digitOf b) bs
-    go true t more q = absurd (let z : _≡_ {A = ℕ} 0 1 = cc in omega arith)
-    go false true more q = absurd (let z : _≡_ {A = ℕ} 0 1 = cc in omega arith)
-    go false false more q = more q
+all-within : (xs : List (List ℕ)) (ws : List Width) → fit ws xs ≡ true → Within xs ws
+unfolding fit
+all-within [] [] e = tt
+all-within (x ∷ xs) (w ∷ ws) e = let h = both (isNumeral (limit w) x) (fit ws xs) e in (in-limit (limit w) x (h .0), all-within xs ws (h .1))
+all-within [] (w ∷ ws) e = let z : _≡_ {A = ℕ} 0 1 = cc in omega arith
+all-within (x ∷ xs) [] e = let z : _≡_ {A = ℕ} 0 1 = cc in omega arith
 
-value : (limit n : ℕ) (w : List ℕ) → numeral limit w ≡ Value n → n ≡ decimal 0 w
-unfolding numeral
-value limit n [] e = absurd (let z : _≡_ {A = ℕ} 0 1 = cc in omega arith)
-value limit n (b ∷ bs) e = onward-value limit 0 n (b ∷ bs) e
+module _ (line : List ℕ) (other : commandOf line ≡ Error → ⊥) where
+  by-form : (xs : List (List ℕ)) (i : ℕ) (b : Bool) → fit (formAt i .widths) xs ≡ b → i < length forms → words line ≡ formAt i .name ∷ xs
+      → commandOf line ≡ cond b (formAt i .makes (λ i. decimal 0 (getD xs i []))) Error → Accepted line
+  by-form xs i false e h split is = absurd (other is)
+  by-form xs i true e h split is =
+      record { place = i; numbers = xs; listed = h; spelt = split; within = all-within xs (formAt i .widths) e; makes = is }
 
-all-values : (most : ℕ) (ws : List (List ℕ)) (ns : List ℕ) → numbersOf most ws ≡ some ns → ns ≡ values ws
-unfolding numbersOf
-all-values most [] ns e = cc
-all-values zero (w ∷ ws) ns e = absurd (let z : _≡_ {A = ℕ} 0 1 = cc in omega arith)
-all-values (suc most) (w ∷ ws) ns e = go (numeral MAX-U64 w) (numbersOf most ws) (λ n. value MAX-U64 n w) (λ ms. all-values most ws ms) e
-  where
-    go : (x : Number) (y : Option (List ℕ)) → ((n : ℕ) → x ≡ Value n → n ≡ decimal 0 w) → ((ms : List ℕ) → y ≡ some ms → ms ≡ values ws)
-        → withNumber x y ≡ some ns → ns ≡ decimal 0 w ∷ values ws
-    go Not y one more q = absurd (let z : _≡_ {A = ℕ} 0 1 = cc in omega arith)
-    go (Value n) none one more q = absurd (let z : _≡_ {A = ℕ} 0 1 = cc in omega arith)
-    go (Value n) (some ms) one more q =
-        let first-is : n ≡ decimal 0 w = one n refl in
-        let rest-are : ms ≡ values ws = more ms refl in
-        cc
+  by-words : (x : List (List ℕ)) → words line ≡ x → commandOf line ≡ ofWords x → Accepted line
+  unfolding forms
+  by-words [] split is = absurd (other is)
+  by-words (name ∷ xs) split is =
+      let i = placeIn names name in
+      let found = placed names name .1 in
+      elim (decLt i (length forms)) [
+        | yes h ↦
+            let same : name ≡ formAt i .name = sym (found (rw (length-map forms (λ (f : Form). f .name)) h)) ∙ List·getD-map (λ (f : Form). f .name) forms i (formAt 24) in
+            by-form xs i (fit (formAt i .widths) xs) refl h (split ∙ ap (λ w. w ∷ xs) same) is
+        | no h ↦ absurd (other (is ∙ ap (λ f. commandWith f xs) (List·getD-eq-default forms (formAt 24) {n = i} (omega arith)) ∙ either (fit [] xs) Error))
+      ]
 
-all-below : (ns ws : List ℕ) → length ns ≡ length ws → fit ns ws ≡ true → Below ns ws
-all-below [] [] l e = tt
-all-below (n ∷ ns) (w ∷ ws) l e =
-    let h = both (ltb n w) (fit ns ws) e in
-    (ltb-true n w (h .0), all-below ns ws (omega arith) (h .1))
-all-below [] (w ∷ ws) l e = omega arith
-all-below (n ∷ ns) [] l e = omega arith
-
--- the form that was chosen
-record Chosen (fs : List Form) (name ns : List ℕ) (x : Command) : Type 0 where
-  form : Form
-  listed : List·Memᴰ form fs
-  same : name ≡ form .name
-  below : Below ns (form .widths)
-  made : x ≡ form .makes (λ i. getD ns i 0)
-
-choice : (fs : List Form) (name ns : List ℕ) → (chosen fs name ns ≡ Error → ⊥) → Chosen fs name ns (chosen fs name ns)
-unfolding chosen
-choice [] name ns other = absurd (other refl)
-choice (f ∷ fs) name ns other =
-    go (eqb (length ns) (length (f .widths)) && sameBytes name (f .name)) (fit ns (f .widths)) (λ e. e) (λ e. e) (choice fs name ns) other
-  where
-    go : (t b : Bool) → (t ≡ true → eqb (length ns) (length (f .widths)) && sameBytes name (f .name) ≡ true) → (b ≡ true → fit ns (f .widths) ≡ true)
-        → ((chosen fs name ns ≡ Error → ⊥) → Chosen fs name ns (chosen fs name ns))
-        → (cond t (cond b (f .makes (λ i. getD ns i 0)) Error) (chosen fs name ns) ≡ Error → ⊥)
-        → Chosen (f ∷ fs) name ns (cond t (cond b (f .makes (λ i. getD ns i 0)) Error) (chosen fs name ns))
-    go true true told fits more other =
-        let h = both (eqb (length ns) (length (f .widths))) (sameBytes name (f .name)) (told refl) in
-        record {
-          form = f;
-          listed = List·Memᴰ·head refl;
-          same = same-bytes name (f .name) (h .1);
-          below = all-below ns (f .widths) (eqb-true (length ns) (length (f .widths)) (h .0)) (fits refl);
-          made = refl;
-        }
-    go true false told fits more other = absurd (other refl)
-    go false b told fits more other =
-        let r = more other in
-        record { form = r .form; listed = List·Memᴰ·tail (r .listed); same = r .same; below = r .below; made = r .made }
-
-by-numbers : (line name : List ℕ) (ws : List (List ℕ)) (x : Option (List ℕ)) → words line ≡ name ∷ ws → numbersOf 10 ws ≡ x
-    → commandOf line ≡ withNumbers name x → (commandOf line ≡ Error → ⊥) → Accepted line
-by-numbers line name ws none split e is other = absurd (other is)
-by-numbers line name ws (some ns) split e is other =
-    let r = choice forms name ns (λ q. other (is ∙ q)) in
-    let read : ns ≡ values ws = all-values 10 ws ns e in
-    record {
-      form = r .form;
-      numbers = ws;
-      listed = r .listed;
-      spelt = split ∙ ap (λ l. l ∷ ws) (r .same);
-      below = subst (λ l. Below l (r .form .widths)) read (r .below);
-      made = is ∙ r .made ∙ ap (λ l. r .form .makes (λ i. getD l i 0)) read;
-    }
-
-by-words : (line : List ℕ) (x : List (List ℕ)) → words line ≡ x → commandOf line ≡ ofWords x → (commandOf line ≡ Error → ⊥) → Accepted line
-by-words line [] split is other = absurd (other is)
-by-words line (name ∷ ws) split is other = by-numbers line name ws (numbersOf 10 ws) split refl is other
-
--- no command but a form's, with its numbers below their widths
+-- no command but a form's, with its numbers within their widths
 pub accepted : (line : List ℕ) → (commandOf line ≡ Blank → ⊥) → (commandOf line ≡ Error → ⊥) → Accepted line
 unfolding commandOf
 accepted [] blank other = absurd (blank refl)
@@ -142,4 +70,4 @@ accepted (b ∷ bs) blank other = go (eqb b 35) refl blank
   where
     go : (t : Bool) → eqb b 35 ≡ t → (cond t Blank (ofWords (words (b ∷ bs))) ≡ Blank → ⊥) → Accepted (b ∷ bs)
     go true e blank = absurd (blank refl)
-    go false e blank = by-words (b ∷ bs) (words (b ∷ bs)) refl (rw e) other
+    go false e blank = by-words (b ∷ bs) other (words (b ∷ bs)) refl (rw e)

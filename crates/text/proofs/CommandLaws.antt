@@ -1,125 +1,185 @@
 -- Laws of a line as a command: its numbers one by one, and the line from its first byte on. Assumes nothing.
 use mathlib.Core.Bool.{Bool, true, false, cond}
-use mathlib.Core.List.{List, [], _∷_, _++_, append-assoc, append-nil}
-use mathlib.Core.Option.{Option, none, some}
-use mathlib.Core.Path.{_≡_, refl, ap, sym, _∙_}
-use Prim.Native.Nat.{ℕ, zero, suc, _+_, _-_, _≤_, _<_, zero-le}
+use mathlib.Core.List.{List, [], _∷_, _++_, append-nil, map}
+use mathlib.Core.Path.{_≡_, refl, ap, sym, _∙_, fun-ext}
+use Prim.Native.Nat.{ℕ, zero, suc, _+_, _*_, _/_, _%_, _≤_, _<_}
 use native.Mathlib.Omega.{arith}
-use native.Mathlib.Decide.{ℕ-discrete}
+use native.Mathlib.Decide.{decLt, ℕ-discrete}
+use native.Mathlib.Nat.{add-mul-div-left, add-mul-mod-self-left, mod-eq-of-lt}
 use native.Mathlib.Numerals.{add-one}
-use borrow.Author.Tests.{eq-eqb, ne-eqb}
-use lib.Dec.{eqb}
-use lib.ListN.{length, getD, set, take, drop, drop-of-length-le, length-append, length-take}
-use lib.Seq.{drop-cons, length-take-le, take-all, take-suc-set}
-use Rattle.rules.specs.Numbers.{MAX-U64}
-use Rattle.text.proofs.LineLaws.{first-letter, part, part-size, some-word}
-use Rattle.text.specs.Command.{chosen, commandOf, forms, given, named, numbersOf, ofWords, withNumber, withNumbers}
-use Rattle.text.specs.Line.{BLANK, ended, words, wordsAfter}
-use Rattle.text.specs.Numeral.{numeral}
-use Rattle.text.specs.declared.command.Command.{Command}
+use borrow.Author.Tests.{eq-eqb, leb-true, ne-eqb}
+use lib.Dec.{eqb, leb}
+use lib.ListN.{length, getD, set, take, drop, replicate, drop-of-length-le, take-append-drop, List·getD-map}
+use lib.Seq.{drop-cons, drop-drop, getD-drop, getD-set-other, getD-set-same, getD-take}
+use Rattle.rules.specs.Numbers.{WORD}
+use Rattle.text.proofs.LineLaws.{no-words}
+use Rattle.text.proofs.NumeralLaws.{in-limit, says}
+use Rattle.text.specs.Command.{commandOf, fit, Form, formAt, forms, isLong, limit, limitOf, commandWith, makesOf, numberAt, names, ofWords, Width, few, long, short}
+use Rattle.text.specs.Line.{placeIn, words}
+use Rattle.text.specs.Numeral.{decimal, numeral}
 use Rattle.text.specs.declared.command.Command.the-variants.{Blank, Error}
 use Rattle.text.specs.declared.number.Number.the-variants.{Not, Value}
-use Rattle.text.specs.declared.words.Given.{Given}
 
--- ---- the numbers of a line
+-- ---- the table of widths
 
--- numbers that were read, before those that are left
-abbrev pub before : List ℕ → Option (List ℕ) → Option (List ℕ)
-before ns none = none
-before ns (some ms) = some (ns ++ ms)
+-- widths as digits, the first one's the last
+abbrev digit : Width → ℕ
+digit short = 4
+digit long = 8
+digit few = 1
 
-before-none : (x : Option (List ℕ)) → x ≡ before [] x
-before-none none = refl
-before-none (some ms) = refl
+abbrev pub codeOf : List Width → ℕ
+codeOf [] = 0
+codeOf (w ∷ ws) = digit w + 10 * codeOf ws
 
-before-one : (ns : List ℕ) (n : ℕ) (x : Option (List ℕ)) → before ns (withNumber (Value n) x) ≡ before (ns ++ (n ∷ [])) x
-before-one ns n none = refl
-before-one ns n (some ms) = ap some (sym (append-assoc ns (n ∷ []) ms))
+digit-of : (w : Width) → (1 ≤ digit w) × (limitOf (digit w % 10) ≡ limit w) × (digit w / 10 ≡ 0)
+digit-of short = (omega arith, refl, refl)
+digit-of long = (omega arith, refl, refl)
+digit-of few = (omega arith, refl, refl)
 
-pub none-read : (numbers : List ℕ) (ws : List (List ℕ)) → numbersOf 10 ws ≡ before (take 0 numbers) (numbersOf (10 - 0) ws)
-none-read numbers ws = before-none (numbersOf 10 ws)
+alike : {A : Type 0} (a : A) (n i : ℕ) → getD (replicate n a) i a ≡ a
+alike a zero i = refl
+alike a (suc n) zero = refl
+alike a (suc n) (suc i) = alike a n i
 
--- a word that was begun is one more than none
-unread : (word rest : List ℕ) → 0 < length word → numbersOf 0 (wordsAfter word rest) ≡ none
-unfolding numbersOf wordsAfter
-unread word [] h = rw (some-word word [] h)
-unread word (b ∷ bs) h = go (eqb b BLANK) (unread (word ++ (b ∷ [])) bs (omega (arith, length-append word (b ∷ []))))
-  where
-    go : (t : Bool) → numbersOf 0 (wordsAfter (word ++ (b ∷ [])) bs) ≡ none
-        → numbersOf 0 (cond t (ended word (wordsAfter [] bs)) (wordsAfter (word ++ (b ∷ [])) bs)) ≡ none
-    go true less = rw (some-word word (wordsAfter [] bs) h)
-    go false less = less
+one-past : (l : List ℕ) (i : ℕ) → getD (l ++ (0 ∷ [])) i 0 ≡ getD l i 0
+one-past [] zero = refl
+one-past [] (suc i) = refl
+one-past (x ∷ l) zero = refl
+one-past (x ∷ l) (suc i) = one-past l i
 
-module _ (all : Option (List ℕ)) (line numbers : List ℕ) (count at : ℕ)
-    (inv : all ≡ before (take count numbers) (numbersOf (10 - count) (words (drop at line)))) where
-  pub all-read : at ≡ length line → some (take count numbers) ≡ all
-  unfolding numbersOf wordsAfter
-  all-read e = rw (inv, drop-of-length-le line {i = at} (omega arith), append-nil (take count numbers))
+-- the code's table is that of the forms, with a place past its end
+pub code-at : (i : ℕ) → getD (map (λ (f : Form). codeOf (f .widths)) forms ++ (0 ∷ [])) i 0 ≡ codeOf (formAt i .widths)
+unfolding forms
+code-at i = one-past (map (λ (f : Form). codeOf (f .widths)) forms) i ∙ List·getD-map (λ (f : Form). codeOf (f .widths)) forms i (formAt 24)
 
-  pub too-many : count ≡ 10 → at < length line → (getD line at 0 ≡ BLANK → ⊥) → none ≡ all
-  too-many e h b =
-      let some-word : numbersOf 0 (words (drop at line)) ≡ none = rw (first-letter line at h b) (unread (part line at (at + 1))
-      (drop (at + 1) line) (part-size line at (at + 1) (omega arith) (omega arith))) in
-      rw (inv, e, some-word)
+pub at-most-seven : (i : ℕ) → length (formAt i .widths) ≤ 7
+unfolding forms
+at-most-seven i =
+    leb-true (length (formAt i .widths)) 7
+    (sym (List·getD-map (λ (f : Form). leb (length (f .widths)) 7) forms i (formAt 24)) ∙ alike true 24 i)
 
-  module _ (word : List ℕ) (end : ℕ) (split : words (drop at line) ≡ word ∷ words (drop end line)) where
-    module _ (room : count < 10) where
-      fewer : 10 - count ≡ suc (10 - (count + 1))
-      fewer = omega arith
+-- what a `match` on numbers from a first one on leaves
+abbrev Others : ℕ → ℕ → ℕ → Type 0
+Others zero first x = Unit {0}
+Others (suc n) first x = Others n first x × (x ≡ first + n → ⊥)
 
-      pub no-number : Not ≡ numeral MAX-U64 word → none ≡ all
-      unfolding numbersOf
-      no-number e = rw (inv, split, fewer, ← e)
+pub past-others : (n first x : ℕ) → first ≤ x → Others n first x → first + n ≤ x
+past-others zero first x h o = omega arith
+past-others (suc n) first x h o = let less = past-others n first x h (o .0) in let other = o .1 in omega arith
 
-      pub one-more : (n next : ℕ) → Value n ≡ numeral MAX-U64 word → count < length numbers → words (drop end line) ≡ words (drop next line)
-          → all ≡ before (take (count + 1) (set numbers count n)) (numbersOf (10 - (count + 1)) (words (drop next line)))
-      unfolding numbersOf
-      one-more n next e h skip =
-          let written : take (count + 1) (set numbers count n) ≡ take count numbers ++ (n ∷ []) = rw add-one (take-suc-set numbers count n h) in
-          rw (inv, split, fewer, ← e, skip, written, before-one)
+-- ---- the numbers of a line, one by one
 
-pub refused : (g : Given) (all : Option (List ℕ)) → g .good ≡ false → none ≡ all → given g ≡ all
-refused g all e h = rw e h
+-- so many were read, and these words and widths are left
+pub record Reading (ws : List Width) (xs rest : List (List ℕ)) (code count : ℕ) (s n : List ℕ) : Type 0 where
+  pub left : code ≡ codeOf (drop count ws)
+  pub onward : rest ≡ drop count xs
+  pub fits : fit ws xs ≡ fit (drop count ws) rest
+  pub each : (i : ℕ) → numberAt ws s n i ≡ decimal 0 (getD (take count xs) i [])
 
--- ---- the numbers by their count
+pub either : {A : Type 0} (b : Bool) (x : A) → cond b x x ≡ x
+either true x = refl
+either false x = refl
 
--- numbers of a list one by one, from a place on
-abbrev pub firsts : ℕ → List ℕ → ℕ → List ℕ
-firsts zero ns i = []
-firsts (suc k) ns i = getD ns i 0 ∷ firsts k ns (suc i)
+pub none-read : (ws : List Width) (xs rest : List (List ℕ)) (code : ℕ) → code ≡ codeOf ws → xs ≡ rest
+    → Reading ws xs rest code 0 (replicate 7 0) (replicate 7 0)
+unfolding decimal
+none-read ws xs rest code e h =
+    record {
+      left = e;
+      onward = sym h;
+      fits = ap (fit ws) h;
+      each = λ i. rw (alike {A = ℕ} 0 7 i) (either (isLong (getD ws i short)) 0);
+    }
 
-take-firsts : (k i : ℕ) (ns : List ℕ) → i + k ≤ length ns → take k (drop i ns) ≡ firsts k ns i
-take-firsts zero i ns h = refl
-take-firsts (suc k) i ns h = rw (drop-cons ns i 0 (omega arith)) (ap (λ l. getD ns i 0 ∷ l) (take-firsts k (suc i) ns (omega arith)))
+-- a number that its width holds is not cut
+uncut : (w : Width) (v : ℕ) → v ≤ limit w → cond (isLong w) v (v % WORD) ≡ v
+uncut short v h = mod-eq-of-lt (omega arith)
+uncut long v h = refl
+uncut few v h = mod-eq-of-lt (omega arith)
 
-above : {k : ℕ} (m : ℕ) → m ≤ k → (k ≡ m → ⊥) → suc m ≤ k
-above m low other = omega arith
+take-other : (xs : List (List ℕ)) (k i : ℕ) → (i ≡ k → ⊥) → getD (take (suc k) xs) i [] ≡ getD (take k xs) i []
+take-other [] zero i d = refl
+take-other [] (suc k) i d = refl
+take-other (x ∷ xs) zero zero d = absurd (d refl)
+take-other (x ∷ xs) zero (suc i) d = refl
+take-other (x ∷ xs) (suc k) zero d = refl
+take-other (x ∷ xs) (suc k) (suc i) d = take-other xs k i (λ e. d (ap suc e))
 
-between : {k m : ℕ} → m ≤ k → k ≤ suc m → (k ≡ suc m → ⊥) → k ≡ m
-between low high other = omega arith
+no-width : (ds : List Width) → codeOf ds ≡ 0 → ds ≡ []
+no-width [] e = refl
+no-width (w ∷ ds) e = absurd (omega (arith, digit-of w .0))
 
-module _ (name ns : List ℕ) (count : ℕ) (ten : length ns ≡ 10) where
-  pub by-count : (k : ℕ) (x : Command) → count ≡ k → k ≤ 10 → x ≡ named name (firsts k ns 0) → x ≡ named name (take count ns)
-  by-count k x e h told = rw (e, take-firsts k 0 ns (omega arith)) told
+module _ (i : ℕ) {xs rest : List (List ℕ)} {code count : ℕ} {s n : List ℕ} (r : Reading (formAt i .widths) xs rest code count s n) where
+  abbrev ws : List Width
+  ws = formAt i .widths
 
-  pub all-ten : (x : Command) → count ≡ 10 → x ≡ named name ns → x ≡ named name (take count ns)
-  all-ten x e told = rw (take-all count ns (omega arith)) told
+  pub too-many : {x : List ℕ} {more : List (List ℕ)} → rest ≡ x ∷ more → code ≡ 0 → Error ≡ commandWith (formAt i) xs
+  unfolding fit
+  too-many split e = rw (r .fits, split, no-width (drop count ws) (sym (r .left) ∙ e))
 
-  of-length : (k : ℕ) → count ≡ k → k ≤ 10 → length (take count ns) ≡ k
-  of-length k e h = length-take-le count ns (omega arith) ∙ e
+  pub done : rest ≡ [] → code ≡ 0 → makesOf i s n ≡ commandWith (formAt i) xs
+  unfolding fit
+  done h e =
+      let whole : take count xs ≡ xs =
+      sym (append-nil (take count xs)) ∙ ap (λ l. take count xs ++ l) (sym h ∙ r .onward) ∙ take-append-drop count xs in
+      let same : numberAt ws s n ≡ (λ i. decimal 0 (getD xs i [])) = fun-ext (λ i. r .each i ∙ ap (λ l. decimal 0 (getD l i [])) whole) in
+      rw (r .fits, h, no-width (drop count ws) (sym (r .left) ∙ e)) (ap (formAt i .makes) same)
 
-  pub no-count : count ≤ 10 → (count ≡ 0 → ⊥) → (count ≡ 1 → ⊥) → (count ≡ 2 → ⊥) → (count ≡ 3 → ⊥) → (count ≡ 4 → ⊥) → (count ≡ 5 → ⊥)
-      → (count ≡ 7 → ⊥) → (count ≡ 10 → ⊥) → Error ≡ named name (take count ns)
-  unfolding chosen forms
-  no-count h n0 n1 n2 n3 n4 n5 n7 n10 =
-      let past : 6 ≤ count = above 5 (above 4 (above 3 (above 2 (above 1 (above 0 zero-le n0) n1) n2) n3) n4) n5 in
-      elim (ℕ-discrete count 6) [
-        | yes six ↦ rw (of-length 6 six (omega arith))
-        | no n6 ↦ elim (ℕ-discrete count 8) [
-          | yes eight ↦ rw (of-length 8 eight (omega arith))
-          | no n8 ↦ (let last : 9 ≤ count = above 8 (above 7 (above 6 past n6) n7) n8 in rw (of-length 9 (between last h n10) (omega arith)))
+  module _ (some : code ≡ 0 → ⊥) where
+    pub inside : count < length ws
+    inside =
+        elim (decLt count (length ws)) [
+          | yes h ↦ h
+          | no h ↦ absurd (some (r .left ∙ ap codeOf (drop-of-length-le ws {i = count} (omega arith))))
         ]
-      ]
+
+    abbrev width : Width
+    width = getD ws count short
+
+    widths : drop count ws ≡ width ∷ drop (suc count) ws
+    widths = drop-cons ws count short inside
+
+    pub too-few : rest ≡ [] → Error ≡ commandWith (formAt i) xs
+    unfolding fit
+    too-few h = rw (r .fits, h, widths)
+
+    digits : code ≡ digit width + 10 * codeOf (drop (suc count) ws)
+    digits = r .left ∙ ap codeOf widths
+
+    module _ {x : List ℕ} {more : List (List ℕ)} (split : rest ≡ x ∷ more) {most : ℕ} (its : most ≡ limitOf (code % 10)) where
+      its-limit : most ≡ limit width
+      its-limit = its ∙ ap (λ c. limitOf (c % 10)) digits
+          ∙ ap limitOf (add-mul-mod-self-left (digit width) 10 (codeOf (drop (suc count) ws))) ∙ digit-of width .1
+
+      pub no-number : Not ≡ numeral most x → Error ≡ commandWith (formAt i) xs
+      unfolding fit
+      no-number e = rw (r .fits, split, widths, ← its-limit, says most x e)
+
+      pub one-more : {v : ℕ} → Value v ≡ numeral most x → count < length s → count < length n
+          → Reading ws xs more (code / 10) (count + 1) (set s count (v % WORD)) (set n count v)
+      unfolding fit
+      one-more {v} e hs hn =
+          let read = says most x e in
+          let word : getD xs count [] ≡ x =
+          ap (λ k. getD xs k []) (omega arith) ∙ sym (getD-drop count xs 0 []) ∙ ap (λ l. getD l 0 []) (sym (r .onward) ∙ split) in
+          record {
+            left = rw (add-one, digits, add-mul-div-left (digit width) (codeOf (drop (suc count) ws)) {y = 10} (omega arith), digit-of width .2) (omega arith);
+            onward = sym (ap (drop 1) (sym (r .onward) ∙ split)) ∙ drop-drop 1 count xs;
+            fits = rw (add-one, r .fits, split, widths, ← its-limit, read .0);
+            each = λ i. elim (ℕ-discrete i count) [
+              | yes q ↦ rw (
+                q,
+                add-one,
+                getD-set-same n count v 0 hn,
+                getD-set-same s count (v % WORD) 0 hs,
+                getD-take (suc count) xs count [] (omega arith),
+                word,
+                uncut width v (omega (arith, its-limit, in-limit most x (read .0))),
+              ) (read .1)
+              | no d ↦ rw (add-one, getD-set-other n count i v 0 d, getD-set-other s count i (v % WORD) 0 d, take-other xs count i d) (r .each i)
+            ];
+          }
 
 -- ---- a line
 
@@ -128,32 +188,22 @@ unfolding commandOf
 empty-line [] e = refl
 empty-line (b ∷ bs) e = absurd (omega arith)
 
-pub comment : (line : List ℕ) → 0 < length line → getD line 0 0 ≡ 35 → Blank ≡ commandOf line
+some-line : (line : List ℕ) → 0 < length line → commandOf line ≡ cond (eqb (getD line 0 0) 35) Blank (ofWords (words line))
 unfolding commandOf
-comment [] h e = absurd (omega arith)
-comment (b ∷ bs) h e = rw (eq-eqb b 35 e)
+some-line [] h = absurd (omega arith)
+some-line (b ∷ bs) h = refl
 
-words-of : (line : List ℕ) → 0 < length line → (getD line 0 0 ≡ 35 → ⊥) → commandOf line ≡ ofWords (words line)
-unfolding commandOf
-words-of [] h e = absurd (omega arith)
-words-of (b ∷ bs) h e = rw (ne-eqb b 35 e)
+pub comment : (line : List ℕ) → 0 < length line → getD line 0 0 ≡ 35 → Blank ≡ commandOf line
+comment line h e = rw (some-line line h, eq-eqb (getD line 0 0) 35 e)
 
 module _ (line : List ℕ) (start : ℕ) (some-byte : 0 < length line) (no-comment : getD line 0 0 ≡ 35 → ⊥)
     (skip : words (drop 0 line) ≡ words (drop start line)) where
   by-words : commandOf line ≡ ofWords (words (drop start line))
-  by-words = words-of line some-byte no-comment ∙ ap ofWords skip
+  by-words = rw (some-line line some-byte, ne-eqb (getD line 0 0) 35 no-comment, skip)
 
   pub only-blanks : start ≡ length line → Error ≡ commandOf line
-  unfolding wordsAfter
-  only-blanks e = rw (by-words, drop-of-length-le line {i = start} (omega arith))
+  only-blanks e = rw (by-words, no-words line start (omega arith))
 
-  pub named-by : (name : List ℕ) (end : ℕ) (x : Option (List ℕ)) → words (drop start line) ≡ name ∷ words (drop end line)
-      → x ≡ numbersOf 10 (words (drop end line)) → commandOf line ≡ withNumbers name x
-  named-by name end x split e = rw (by-words, split, ← e)
-
-module _ (line name : List ℕ) (g : Given) (by : commandOf line ≡ withNumbers name (given g)) where
-  pub no-numbers : g .good ≡ false → Error ≡ commandOf line
-  no-numbers e = rw (by, e)
-
-  pub some-numbers : (x : Command) → g .good ≡ true → x ≡ named name (take (g .count) (g .numbers)) → x ≡ commandOf line
-  some-numbers x e told = rw (by, e) told
+  pub named-by : (name : List ℕ) (xs : List (List ℕ)) (form : ℕ) → words (drop start line) ≡ name ∷ xs → form ≡ placeIn names name
+      → commandWith (formAt form) xs ≡ commandOf line
+  named-by name xs form split e = rw (by-words, split, e)

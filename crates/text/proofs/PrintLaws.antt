@@ -1,5 +1,4 @@
 -- Laws of what is printed. Assumes nothing.
-use mathlib.Core.Bool.{Bool, true, false, cond}
 use mathlib.Core.List.{List, [], _∷_, _++_, append-assoc, append-nil}
 use mathlib.Core.Path.{_≡_, refl, ap, sym, _∙_}
 use Prim.Native.Nat.{ℕ, zero, suc, _+_, _*_, _-_, _/_, _%_, _^_, _≤_, _<_}
@@ -8,14 +7,10 @@ use native.Mathlib.Decide.{decLe}
 use native.Mathlib.Numerals.{add-one}
 use native.Mathlib.Nat.{pow-le-pow-right, pow-suc, mod-lt, mod-eq-of-lt, le-div-iff-mul-le, div-lt-iff-lt-mul}
 use borrow.Author.Tests.{lt-ltb, le-ltb}
-use lib.Dec.{ltb}
-use lib.ListN.{length, set, take, drop, length-append}
-use mir.Val.{boolByte}
-use lib.Seq.{paste, set-split, append-snoc, take-length, take-paste, drop-paste, length-paste, drop-drop}
+use lib.ListN.{length, getD, set, take, drop, length-append}
+use lib.Seq.{paste, paste-zero, set-split, append-snoc, take-length, take-paste, take-suc, drop-paste, length-paste, drop-drop}
 use Rattle.io.specs.Digits.{digits, Fewest, glyph}
-use Rattle.rules.specs.Lent.{numberOf}
-use Rattle.rules.specs.declared.call.Answer.{Answer}
-use Rattle.text.specs.Printed.{Printed, spell, spellIn, listed, answerText}
+use Rattle.text.specs.Printed.{Printed, spell, spellIn, listed}
 
 -- ---- a text after another
 
@@ -75,43 +70,17 @@ digits-spell (suc (suc k)) (suc room) n f h =
     ) in
     rw (le-ltb n 10 wide, glyph-digit (n % 10) (mod-lt n (omega arith)), ← digits-spell (suc k) room (n / 10) more (omega arith))
 
--- every spelling has a digit, and at most as many as there is room for
-size-in : (room n : ℕ) → (1 ≤ room → 1 ≤ length (spellIn room n)) × (length (spellIn room n) ≤ room)
-unfolding spellIn
-size-in zero n = (λ h. absurd (omega arith), omega arith)
-size-in (suc room) n = go (ltb n 10) (size-in room (n / 10))
-  where
-    go : (b : Bool) → (1 ≤ room → 1 ≤ length (spellIn room (n / 10))) × (length (spellIn room (n / 10)) ≤ room)
-        → (1 ≤ suc room → 1 ≤ length (cond b ((48 + n) ∷ []) (spellIn room (n / 10) ++ ((48 + n % 10) ∷ []))))
-        × (length (cond b ((48 + n) ∷ []) (spellIn room (n / 10) ++ ((48 + n % 10) ∷ []))) ≤ suc room)
-    go true less = (λ h. omega arith, omega arith)
-    go false less =
-        let size = length-append (spellIn room (n / 10)) ((48 + n % 10) ∷ []) in
-        (λ h. omega arith, omega arith)
-
 -- 64 bits take at most 20 digits
 pub at-most-20 : (n count : ℕ) → n < 2 ^ 64 → Fewest 10 1 n count → count ≤ 20
-at-most-20 n count small f = go (decLe count 20)
-  where
-    go : Dec (count ≤ 20) → count ≤ 20
-    go (yes h) = h
-    go (no h) =
-        let low : 10 ^ (count - 1) ≤ n = f .2 (omega arith) in
-        let up : 10 ^ 20 ≤ 10 ^ (count - 1) = pow-le-pow-right {n = 10} (omega arith) {i = 20} {j = count - 1} (omega arith) in
-        absurd (omega arith)
+at-most-20 n count small f =
+    elim (decLe count 20) [
+      | yes h ↦ h
+      | no h ↦ absurd (omega (arith, f .2 (omega arith), pow-le-pow-right {n = 10} (omega arith) {i = 20} {j = count - 1} (omega arith)))
+    ]
 
 pub spelt : (n count : ℕ) → n < 2 ^ 64 → Fewest 10 1 n count → digits 10 count n ≡ spell n
 unfolding spell
 spelt n count small f = digits-spell count 20 n f (at-most-20 n count small f)
-
--- a spelling has at least one byte and at most 20
-pub some-digit : (n : ℕ) → 1 ≤ length (spell n)
-unfolding spell
-some-digit n = size-in 20 n .0 (omega arith)
-
-pub twenty-digits : (n : ℕ) → length (spell n) ≤ 20
-unfolding spell
-twenty-digits n = size-in 20 n .1
 
 -- ---- one byte
 
@@ -134,18 +103,10 @@ pub one-listed : (n : ℕ) → 32 ∷ spell n ≡ listed (n ∷ [])
 unfolding listed
 one-listed n = sym (append-nil (32 ∷ spell n))
 
-pub three-listed : (a b c : ℕ) → listed (a ∷ []) ++ (listed (b ∷ []) ++ listed (c ∷ [])) ≡ listed (a ∷ b ∷ c ∷ [])
-three-listed a b c = ap (λ l. listed (a ∷ []) ++ l) (listed-append (b ∷ []) (c ∷ [])) ∙ listed-append (a ∷ []) (b ∷ c ∷ [])
+-- one number more of a list
+pub listed-more : (ns : List ℕ) (i : ℕ) → i < length ns → listed (take i ns) ++ listed (getD ns i 0 ∷ []) ≡ listed (take (i + 1) ns)
+listed-more ns i h = rw (add-one, take-suc ns i 0 h) (listed-append (take i ns) (getD ns i 0 ∷ []))
 
-pub four-listed : (a b c d : ℕ) → listed (a ∷ []) ++ (listed (b ∷ []) ++ (listed (c ∷ []) ++ listed (d ∷ []))) ≡ listed (a ∷ b ∷ c ∷ d ∷ [])
-four-listed a b c d = ap (λ l. listed (a ∷ []) ++ l) (three-listed b c d) ∙ listed-append (a ∷ []) (b ∷ c ∷ d ∷ [])
-
-yes-number : (b : Bool) → boolByte b ≡ cond b 1 0
-yes-number true = refl
-yes-number false = refl
-
--- an answer's nine numbers, as the machine has its owner and its yes
-pub nine-said : (a : Answer) (owner : ℕ) → owner ≡ numberOf (a .owner)
-    → spell (a .no) ++ listed (a .key ∷ a .token ∷ owner ∷ a .amount ∷ a .steps ∷ boolByte (a .yes) ∷ a .from ∷ a .to ∷ []) ≡ answerText a
-unfolding answerText
-nine-said a owner o = rw (o, yes-number (a .yes))
+pub nothing-printed : (before : List ℕ) (at : ℕ) → at ≤ length before → Printed before before at (listed []) at
+unfolding listed
+nothing-printed before at h = record { place = omega arith; room = omega arith; stands = paste-zero before at [] }

@@ -1,191 +1,128 @@
 -- Which line is which command: CALLS.md, sentence by sentence and in its order.
 use mathlib.Core.Bool.{Bool, true, false, cond, _&&_}
-use mathlib.Core.List.{List, [], _∷_}
-use mathlib.Core.Option.{Option, none, some}
-use mathlib.Core.Path.{_≡_}
-use Prim.Native.Nat.{ℕ, zero, suc, _^_}
+use mathlib.Core.List.{List, [], _∷_, map}
+use Prim.Native.Nat.{ℕ, _-_, _^_}
 use Prim.Native.String.{String}
-use lib.Dec.{eqb, ltb}
-use lib.ListN.{length, getD, replicate, take}
+use lib.Dec.{eqb}
+use lib.ListN.{getD}
 use Rattle.rules.specs.Lent.{mark}
-use Rattle.rules.specs.Numbers.{MAX-U64}
-use Rattle.rules.specs.declared.call.Call.the-variants.{
-  New,
-  Len,
-  Find,
-  Unioned,
-  Join,
-  Post,
-  Probe,
-  ProbeKey,
-  TryProbe,
-  Snapshot,
-  Rollback,
-  Commit,
-  Keys,
-  Actions,
-  Changes,
-}
-use Rattle.text.specs.Bytes.{bytes, sameBytes}
-use Rattle.text.specs.Line.{words}
-use Rattle.text.specs.Numeral.{numeral}
+use Rattle.rules.specs.declared.call.Call.the-variants.{New, Len, Find, Unioned, Join, Post, Probe, ProbeKey, TryProbe, Snapshot, Rollback, Commit, Keys, Actions, Changes}
+use Rattle.text.specs.Bytes.{bytes}
+use Rattle.text.specs.Line.{placeIn, words}
+use Rattle.text.specs.Numeral.{decimal, isNumeral}
 use Rattle.text.specs.declared.command.Command.{Command}
-use Rattle.text.specs.declared.command.Command.the-variants.{
-  Blank,
-  Error,
-  Call,
-  Table,
-  Row,
-  Live,
-  Dump,
-  SetRow,
-  SetEntry,
-  SetState,
-  SetMark,
-  Lend,
-}
+use Rattle.text.specs.declared.command.Command.the-variants.{Blank, Error, Call, Table, Row, Live, Dump, SetRow, SetEntry, SetState, SetMark, Lend}
 use Rattle.text.specs.declared.command.Lengths.{Lengths}
 use Rattle.text.specs.declared.command.RowNumbers.{RowNumbers}
-use Rattle.text.specs.declared.number.Number.{Number}
-use Rattle.text.specs.declared.number.Number.the-variants.{Not, Value}
-use Rattle.text.specs.declared.words.Given.{Given}
 
--- ---- widths: a number that stands in a place is below this
+-- ---- widths
 
--- "Keys and owners are below 2^32, amounts and tokens below 2^64."
-abbrev pub KEY : ℕ
-KEY = 2 ^ 32
+-- "Keys and owners are below 2^32, amounts and tokens below 2^64": `short` are also ranks, kinds, places in the log, counts and lengths,
+-- and `long` serials, which are tokens. `few` is a mark's place: "I from 0, the outermost, to 31".
+pub data Width : Type 0 where
+  short : Width
+  long : Width
+  few : Width
 
-abbrev pub OWNER : ℕ
-OWNER = 2 ^ 32
-
-abbrev pub AMOUNT : ℕ
-AMOUNT = 2 ^ 64
-
-abbrev pub TOKEN : ℕ
-TOKEN = 2 ^ 64
-
--- ranks, kinds, places in the log, counts and lengths; serials are tokens
-abbrev pub SMALL : ℕ
-SMALL = 2 ^ 32
-
--- "I from 0, the outermost, to 31"
-abbrev pub MARK : ℕ
-MARK = 32
+-- the largest number of a width
+abbrev pub limit : Width → ℕ
+limit short = 2 ^ 32 - 1
+limit long = 2 ^ 64 - 1
+limit few = 31
 
 -- ---- the commands
 
 -- a name, the widths of the numbers after it, and what they make
 pub record Form : Type 0 where
   pub name : List ℕ
-  pub widths : List ℕ
+  pub widths : List Width
   pub makes : (ℕ → ℕ) → Command
 
-abbrev pub form : String → List ℕ → ((ℕ → ℕ) → Command) → Form
+abbrev pub form : String → List Width → ((ℕ → ℕ) → Command) → Form
 form s ws f = record { name = bytes s; widths = ws; makes = f }
 
 abbrev pub rowNumbers : ℕ → ℕ → ℕ → ℕ → RowNumbers
 rowNumbers p r o a = record { parent = p; rank = r; owner = o; amount = a }
 
-abbrev pub lengths : (ℕ → ℕ) → Lengths
-lengths n =
-    record {
-      parents = n 0;
-      ranks = n 1;
-      owners = n 2;
-      amounts = n 3;
-      logkinds = n 4;
-      logkeys = n 5;
-      logparents = n 6;
-      logranks = n 7;
-      logowners = n 8;
-      logamounts = n 9;
-    }
+abbrev pub lengths : ℕ → ℕ → ℕ → ℕ → Lengths
+lengths p c a l = record { parents = p; crowns = c; amounts = a; log = l }
 
 unfoldable pub forms : List Form
 forms =
     -- "Calls"
-    form "new" (OWNER ∷ AMOUNT ∷ []) (λ n. Call (New (n 0) (n 1)))
+    form "new" (short ∷ long ∷ []) (λ n. Call (New (n 0) (n 1)))
     ∷ form "len" [] (λ n. Call Len)
-    ∷ form "find" (KEY ∷ []) (λ n. Call (Find (n 0)))
-    ∷ form "unioned" (KEY ∷ KEY ∷ []) (λ n. Call (Unioned (n 0) (n 1)))
-    ∷ form "join" (KEY ∷ KEY ∷ []) (λ n. Call (Join (n 0) (n 1)))
-    ∷ form "post" (KEY ∷ OWNER ∷ AMOUNT ∷ []) (λ n. Call (Post (n 0) (n 1) (n 2)))
-    ∷ form "probe" (KEY ∷ []) (λ n. Call (Probe (n 0)))
-    ∷ form "probe_key" (KEY ∷ []) (λ n. Call (ProbeKey (n 0)))
-    ∷ form "try_probe" (KEY ∷ []) (λ n. Call (TryProbe (n 0)))
+    ∷ form "find" (short ∷ []) (λ n. Call (Find (n 0)))
+    ∷ form "unioned" (short ∷ short ∷ []) (λ n. Call (Unioned (n 0) (n 1)))
+    ∷ form "join" (short ∷ short ∷ []) (λ n. Call (Join (n 0) (n 1)))
+    ∷ form "post" (short ∷ short ∷ long ∷ []) (λ n. Call (Post (n 0) (n 1) (n 2)))
+    ∷ form "probe" (short ∷ []) (λ n. Call (Probe (n 0)))
+    ∷ form "probe_key" (short ∷ []) (λ n. Call (ProbeKey (n 0)))
+    ∷ form "try_probe" (short ∷ []) (λ n. Call (TryProbe (n 0)))
     ∷ form "snapshot" [] (λ n. Call Snapshot)
-    ∷ form "rollback" (TOKEN ∷ []) (λ n. Call (Rollback (n 0)))
-    ∷ form "commit" (TOKEN ∷ []) (λ n. Call (Commit (n 0)))
-    ∷ form "keys" (TOKEN ∷ []) (λ n. Call (Keys (n 0)))
-    ∷ form "actions" (TOKEN ∷ []) (λ n. Call (Actions (n 0)))
-    ∷ form "changes" (TOKEN ∷ []) (λ n. Call (Changes (n 0)))
+    ∷ form "rollback" (long ∷ []) (λ n. Call (Rollback (n 0)))
+    ∷ form "commit" (long ∷ []) (λ n. Call (Commit (n 0)))
+    ∷ form "keys" (long ∷ []) (λ n. Call (Keys (n 0)))
+    ∷ form "actions" (long ∷ []) (λ n. Call (Actions (n 0)))
+    ∷ form "changes" (long ∷ []) (λ n. Call (Changes (n 0)))
     -- "Looking"
-    ∷ form "table" (SMALL ∷ SMALL ∷ []) (λ n. Table (n 0) (n 1))
-    ∷ form "row" (KEY ∷ []) (λ n. Row (n 0))
+    ∷ form "table" (short ∷ short ∷ []) (λ n. Table (n 0) (n 1))
+    ∷ form "row" (short ∷ []) (λ n. Row (n 0))
     ∷ form "live" [] (λ n. Live)
     ∷ form "dump" [] (λ n. Dump)
     -- "Damage, for tests"
-    ∷ form "set_row" (KEY ∷ KEY ∷ SMALL ∷ OWNER ∷ AMOUNT ∷ []) (λ n. SetRow (n 0) (rowNumbers (n 1) (n 2) (n 3) (n 4)))
-    ∷ form "set_entry" (SMALL ∷ SMALL ∷ KEY ∷ KEY ∷ SMALL ∷ OWNER ∷ AMOUNT ∷ [])
+    ∷ form "set_row" (short ∷ short ∷ short ∷ short ∷ long ∷ []) (λ n. SetRow (n 0) (rowNumbers (n 1) (n 2) (n 3) (n 4)))
+    ∷ form "set_entry" (short ∷ short ∷ short ∷ short ∷ short ∷ short ∷ long ∷ [])
     (λ n. SetEntry (n 0) (n 1) (n 2) (rowNumbers (n 3) (n 4) (n 5) (n 6)))
-    ∷ form "set_state" (SMALL ∷ SMALL ∷ SMALL ∷ TOKEN ∷ []) (λ n. SetState (n 0) (n 1) (n 2) (n 3))
-    ∷ form "set_mark" (MARK ∷ TOKEN ∷ SMALL ∷ SMALL ∷ []) (λ n. SetMark (n 0) (mark (n 1) (n 2) (n 3)))
-    ∷ form "lend" (replicate 10 SMALL) (λ n. Lend (lengths n))
+    ∷ form "set_state" (short ∷ short ∷ short ∷ long ∷ []) (λ n. SetState (n 0) (n 1) (n 2) (n 3))
+    ∷ form "set_mark" (few ∷ long ∷ short ∷ short ∷ []) (λ n. SetMark (n 0) (mark (n 1) (n 2) (n 3)))
+    ∷ form "lend" (short ∷ short ∷ short ∷ short ∷ []) (λ n. Lend (lengths (n 0) (n 1) (n 2) (n 3)))
     ∷ []
 
--- each number is below its width
-abbrev pub fit : List ℕ → List ℕ → Bool
-fit (n ∷ ns) (w ∷ ws) = ltb n w && fit ns ws
-fit [] ws = true
-fit (n ∷ ns) [] = true
+-- the form at a place of the table, and one that makes nothing past its end
+abbrev pub formAt : ℕ → Form
+formAt i = getD forms i (record { name = []; widths = []; makes = λ n. Error })
 
--- the form of a name with so many numbers: "a line that is no command" is an error, also where a number is too wide
-unfoldable pub chosen : List Form → List ℕ → List ℕ → Command
-chosen [] name ns = Error
-chosen (f ∷ fs) name ns =
-    cond (eqb (length ns) (length (f .widths)) && sameBytes name (f .name))
-    (cond (fit ns (f .widths)) (f .makes (λ i. getD ns i 0)) Error)
-    (chosen fs name ns)
-
-abbrev pub named : List ℕ → List ℕ → Command
-named name ns = chosen forms name ns
-
--- a name that no form with a token has
-pub record NoToken (name : List ℕ) : Type 0 where
-  pub rollback : sameBytes name (bytes "rollback") ≡ false
-  pub commit : sameBytes name (bytes "commit") ≡ false
-  pub keys : sameBytes name (bytes "keys") ≡ false
-  pub actions : sameBytes name (bytes "actions") ≡ false
-  pub changes : sameBytes name (bytes "changes") ≡ false
+abbrev pub names : List (List ℕ)
+names = map (λ (f : Form). f .name) forms
 
 -- ---- a line
 
-abbrev pub withNumber : Number → Option (List ℕ) → Option (List ℕ)
-withNumber Not ns = none
-withNumber (Value n) none = none
-withNumber (Value n) (some ns) = some (n ∷ ns)
+-- "numbers decimal": as many words as widths, and each a number that is not wider
+unfoldable pub fit : List Width → List (List ℕ) → Bool
+fit [] [] = true
+fit (w ∷ ws) (x ∷ xs) = isNumeral (limit w) x && fit ws xs
+fit [] (x ∷ xs) = false
+fit (w ∷ ws) [] = false
 
--- "numbers decimal": each word a number of 64 bits, and so many at most
-unfoldable pub numbersOf : ℕ → List (List ℕ) → Option (List ℕ)
-numbersOf most [] = some []
-numbersOf zero (w ∷ ws) = none
-numbersOf (suc most) (w ∷ ws) = withNumber (numeral MAX-U64 w) (numbersOf most ws)
+-- "a line that is no command" is an error, also where a number is too wide
+abbrev pub commandWith : Form → List (List ℕ) → Command
+commandWith f xs = cond (fit (f .widths) xs) (f .makes (λ i. decimal 0 (getD xs i []))) Error
 
--- what `words::numbers_from` found
-abbrev pub given : Given → Option (List ℕ)
-given g = cond (g .good) (some (take (g .count) (g .numbers))) none
-
-abbrev pub withNumbers : List ℕ → Option (List ℕ) → Command
-withNumbers name none = Error
-withNumbers name (some ns) = named name ns
-
--- a name and its numbers: no command has more than the ten of `lend`
 abbrev pub ofWords : List (List ℕ) → Command
 ofWords [] = Error
-ofWords (name ∷ ws) = withNumbers name (numbersOf 10 ws)
+ofWords (name ∷ xs) = commandWith (formAt (placeIn names name)) xs
 
 -- "Empty lines and lines that begin with `#` print nothing."
 unfoldable pub commandOf : List ℕ → Command
 commandOf [] = Blank
 commandOf (b ∷ bs) = cond (eqb b 35) Blank (ofWords (words (b ∷ bs)))
+
+-- ---- the numbers of a line as the code has them
+
+-- a width by the digit that the code has for it
+abbrev pub limitOf : ℕ → ℕ
+limitOf digit = cond (eqb digit 1) (limit few) (cond (eqb digit 4) (limit short) (limit long))
+
+abbrev pub isLong : Width → Bool
+isLong short = false
+isLong long = true
+isLong few = false
+
+-- the number at a place, of 64 bits where its width is `long`, else of 32
+abbrev pub numberAt : List Width → List ℕ → List ℕ → ℕ → ℕ
+numberAt ws shorts longs i = cond (isLong (getD ws i short)) (getD longs i 0) (getD shorts i 0)
+
+-- what a form makes of them
+abbrev pub makesOf : ℕ → List ℕ → List ℕ → Command
+makesOf i shorts longs = formAt i .makes (numberAt (formAt i .widths) shorts longs)

@@ -2,9 +2,10 @@
 use mathlib.Core.Bool.{cond}
 use mathlib.Core.List.{List, [], _∷_, _++_}
 use mathlib.Core.Path.{_≡_}
-use Prim.Native.Nat.{ℕ, _-_, _≤_, _<_}
+use Prim.Native.Nat.{ℕ, suc, _-_, _≤_, _<_}
 use lib.Dec.{eqb}
 use lib.ListN.{length, getD, take, drop}
+use Rattle.text.specs.Bytes.{sameBytes}
 
 abbrev pub BLANK : ℕ
 BLANK = 32
@@ -21,6 +22,11 @@ wordsAfter word (b ∷ bs) = cond (eqb b BLANK) (ended word (wordsAfter [] bs)) 
 
 abbrev pub words : List ℕ → List (List ℕ)
 words line = wordsAfter [] line
+
+-- which of some words this is, and their number where it is none of them
+unfoldable pub placeIn : List (List ℕ) → List ℕ → ℕ
+placeIn [] word = 0
+placeIn (w ∷ ws) word = cond (sameBytes word w) 0 (suc (placeIn ws word))
 
 -- ---- places in a line
 

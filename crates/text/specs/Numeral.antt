@@ -1,26 +1,25 @@
 -- A word of digits read as a number, as CALLS.md has it: decimal, digits alone, below its width.
-use mathlib.Core.Bool.{cond}
+use mathlib.Core.Bool.{Bool, true, cond, _&&_}
 use mathlib.Core.List.{List, [], _∷_}
 use Prim.Native.Nat.{ℕ, _+_, _*_, _-_}
-use lib.Dec.{ltb}
+use lib.Dec.{leb, ltb}
+use lib.ListN.{length}
 use Rattle.text.specs.declared.number.Number.{Number}
 use Rattle.text.specs.declared.number.Number.the-variants.{Not, Value}
 
--- the value of an ASCII digit, and 10 for every other byte
-abbrev pub digitOf : ℕ → ℕ
-digitOf b = cond (ltb b 48) 10 (cond (ltb 57 b) 10 (b - 48))
+-- ASCII digits alone
+unfoldable pub allDigits : List ℕ → Bool
+allDigits [] = true
+allDigits (b ∷ bs) = leb 48 b && (leb b 57 && allDigits bs)
 
 -- the decimal value of more digits, after those that make n
 unfoldable pub decimal : ℕ → List ℕ → ℕ
 decimal n [] = n
-decimal n (b ∷ bs) = decimal (n * 10 + digitOf b) bs
+decimal n (b ∷ bs) = decimal (n * 10 + (b - 48)) bs
 
--- n, then more bytes: nothing where one of them is no digit or the value passes the limit
-unfoldable pub onward : ℕ → ℕ → List ℕ → Number
-onward limit n [] = Value n
-onward limit n (b ∷ bs) = cond (ltb 9 (digitOf b)) Not (cond (ltb limit (n * 10 + digitOf b)) Not (onward limit (n * 10 + digitOf b) bs))
+-- at least one digit, nothing else, and a value within the limit; zeros in front are allowed
+abbrev pub isNumeral : ℕ → List ℕ → Bool
+isNumeral limit w = allDigits w && (ltb 0 (length w) && leb (decimal 0 w) limit)
 
--- a word as a number: nothing where it is empty
-unfoldable pub numeral : ℕ → List ℕ → Number
-numeral limit [] = Not
-numeral limit (b ∷ bs) = onward limit 0 (b ∷ bs)
+abbrev pub numeral : ℕ → List ℕ → Number
+numeral limit w = cond (isNumeral limit w) (Value (decimal 0 w)) Not

@@ -6,7 +6,7 @@ use Prim.Native.Nat.{ℕ, zero, suc, _+_, _/_, _%_, _≤_, _<_}
 use lib.Dec.{ltb}
 use lib.ListN.{length}
 use lib.Seq.{paste}
-use Rattle.rules.specs.Lent.{numberOf}
+use Rattle.rules.specs.Answer.{answerNumbers}
 use Rattle.rules.specs.declared.call.Answer.{Answer}
 use Rattle.rules.specs.declared.table.Mark.{Mark}
 use Rattle.rules.specs.declared.table.State.{State}
@@ -25,17 +25,19 @@ spellIn (suc room) n = cond (ltb n 10) ((48 + n) ∷ []) (spellIn room (n / 10) 
 unfoldable pub spell : ℕ → List ℕ
 spell n = spellIn 20 n
 
--- "separated by one blank": a blank before each
+-- a blank before each
 unfoldable pub listed : List ℕ → List ℕ
 listed [] = []
 listed (n ∷ ns) = (32 ∷ spell n) ++ listed ns
 
+-- "separated by one blank": one between two
+abbrev pub spaced : List ℕ → List ℕ
+spaced [] = []
+spaced (n ∷ ns) = spell n ++ listed ns
+
 -- "NO KEY TOKEN OWNER AMOUNT STEPS YES FROM TO"
 unfoldable pub answerText : Answer → List ℕ
-answerText a =
-    spell (a .no)
-    ++ listed
-    (a .key ∷ a .token ∷ numberOf (a .owner) ∷ a .amount ∷ a .steps ∷ cond (a .yes) 1 0 ∷ a .from ∷ a .to ∷ [])
+answerText a = spaced (answerNumbers a)
 
 -- a lent number, and "`-` for what is missing"
 unfoldable pub cellText : Cell → List ℕ

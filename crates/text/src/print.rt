@@ -1,14 +1,14 @@
 // Numbers, answers, rows and entries, printed from place `at` of a buffer on. Each function answers the place after
 // what it wrote. The caller leaves room: no answer, row or entry is longer than `ROOM`.
-ghost use mathlib.Core.List.{[], _∷_, _++_};
-ghost use Prim.Native.Nat.{_+_, _≤_, _<_};
+ghost use mathlib.Core.List.{[], _∷_};
+ghost use Prim.Native.Nat.{_+_, _*_, _≤_, _<_};
 ghost use lib.ListN.{length};
 ghost use Rattle.text.specs.Bytes.{bytes as text};
 ghost use Rattle.text.specs.Printed.{Printed, Wrote, spell, listed, answerText, cellText, rowText, kindText, markText, stateText, errorText};
+use rules::answer::answer_numbers;
 use rules::call::Answer;
 use rules::table::Mark;
 use rules::table::State;
-use snapshot_vec::owners::number_of;
 
 // The most that one piece takes.
 pub const ROOM: usize = 256;
@@ -56,40 +56,19 @@ pub fn put_next(out: &mut [u8], at: usize, n: u64) -> usize
     put_number(out, next, n)
 }
 
-// Four numbers, a blank before each.
-fn put_four(out: &mut [u8], at: usize, a: u64, b: u64, c: u64, d: u64) -> usize
-    requires { ⌜ at + 84 ≤ length (now out) ⌝ }
-    ensures { λ r. ⌜ Printed (now (out .entry)) (now (out .exit)) at (listed (a ∷ b ∷ c ∷ d ∷ [])) r ⌝ }
-    ensures { λ r. ⌜ Wrote at 84 r ⌝ }
+// Numbers, a blank before each.
+fn put_list(out: &mut [u8], at: usize, numbers: &[u64]) -> usize
+    requires { ⌜ at + 21 * length (now numbers) ≤ length (now out) ⌝ }
+    ensures { λ r. ⌜ Printed (now (out .entry)) (now (out .exit)) at (listed (now (numbers .entry))) r ⌝ }
+    ensures { λ r. ⌜ (at ≤ r) × (r ≤ at + 21 * length (now (numbers .entry))) ⌝ }
 {
-    let second = put_next(out, at, a);
-    let third = put_next(out, second, b);
-    let fourth = put_next(out, third, c);
-    put_next(out, fourth, d)
-}
-
-// Nine numbers, as an answer has them.
-fn put_nine(
-    out: &mut [u8],
-    at: usize,
-    no: u64,
-    key: u64,
-    token: u64,
-    owner: u64,
-    amount: u64,
-    steps: u64,
-    yes: u64,
-    from: u64,
-    to: u64,
-) -> usize
-    requires { ⌜ at + 256 ≤ length (now out) ⌝ }
-    ensures { λ r. ⌜ Printed (now (out .entry)) (now (out .exit)) at
-        (spell no ++ listed (key ∷ token ∷ owner ∷ amount ∷ steps ∷ yes ∷ from ∷ to ∷ [])) r ⌝ }
-    ensures { λ r. ⌜ Wrote at 256 r ⌝ }
-{
-    let second = put_number(out, at, no);
-    let sixth = put_four(out, second, key, token, owner, amount);
-    put_four(out, sixth, steps, yes, from, to)
+    let mut end = at;
+    let mut i = 0;
+    while i < numbers.len() {
+        end = put_next(out, end, numbers[i]);
+        i += 1;
+    }
+    end
 }
 
 // An answer.
@@ -98,27 +77,9 @@ pub fn put_answer(out: &mut [u8], at: usize, answer: Answer) -> usize
     ensures { λ r. ⌜ Printed (now (out .entry)) (now (out .exit)) at (answerText answer) r ⌝ }
     ensures { λ r. ⌜ Wrote at 256 r ⌝ }
 {
-    let held = answer.owner;
-    let owner = number_of(held) as u64;
-    let no = answer.no as u64;
-    let key = answer.key as u64;
-    let steps = answer.steps as u64;
-    let yes = answer.yes as u64;
-    let from = answer.from as u64;
-    let to = answer.to as u64;
-    put_nine(
-        out,
-        at,
-        no,
-        key,
-        answer.token,
-        owner,
-        answer.amount,
-        steps,
-        yes,
-        from,
-        to,
-    )
+    let numbers = answer_numbers(answer);
+    let second = put_number(out, at, numbers[0]);
+    put_list(out, second, &numbers[1..])
 }
 
 // A lent number, or that there is none at this place.
@@ -184,10 +145,9 @@ pub fn put_mark(out: &mut [u8], at: usize, mark: Mark) -> usize
     ensures { λ r. ⌜ Printed (now (out .entry)) (now (out .exit)) at (markText mark) r ⌝ }
     ensures { λ r. ⌜ Wrote at 256 r ⌝ }
 {
+    let numbers = [mark.serial, mark.log_len as u64, mark.keys as u64];
     let first = put_bar(out, at);
-    let second = put_next(out, first, mark.serial);
-    let third = put_next(out, second, mark.log_len as u64);
-    put_next(out, third, mark.keys as u64)
+    put_list(out, first, &numbers)
 }
 
 // The numbers of a state, and the word before the marks.
@@ -196,16 +156,10 @@ pub fn put_state(out: &mut [u8], at: usize, state: State) -> usize
     ensures { λ r. ⌜ Printed (now (out .entry)) (now (out .exit)) at (stateText state) r ⌝ }
     ensures { λ r. ⌜ Wrote at 256 r ⌝ }
 {
-    let first = put_bytes(out, at, b" state");
     let count = state.count as u64;
-    let marks = put_four(
-        out,
-        first,
-        count,
-        state.used as u64,
-        state.open as u64,
-        state.last,
-    );
+    let numbers = [count, state.used as u64, state.open as u64, state.last];
+    let first = put_bytes(out, at, b" state");
+    let marks = put_list(out, first, &numbers);
     put_bytes(out, marks, b" marks")
 }
 

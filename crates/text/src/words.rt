@@ -1,15 +1,9 @@
+// The words of a line, by their places.
 ghost use mathlib.Core.Path.{_≡_};
-ghost use mathlib.Core.Bool.{false};
 ghost use Prim.Native.Nat.{_≤_, _<_};
-ghost use lib.ListN.{length, drop};
-ghost use Rattle.text.specs.Command.{given, numbersOf};
-ghost use Rattle.text.specs.Line.{Skipped, Spans, words};
-use crate::number::Number;
-use crate::number::read;
-use rules::numbers::MAX_U64;
-
-// The largest number of words after a name: those of `lend`.
-pub const MOST: usize = 10;
+ghost use lib.ListN.{length};
+ghost use Rattle.text.specs.Line.{placeIn, Skipped, Spans, words};
+use check::same;
 
 // The first place from `from` on that is no blank, or the line's end.
 pub fn skip_blanks(line: &[u8], from: usize) -> usize
@@ -41,50 +35,19 @@ pub fn word_end(line: &[u8], start: usize) -> usize
     i
 }
 
-// The numbers of a line after its name. `good` is false where a word is no number or there are too many.
-pub struct Given {
-    pub good: bool,
-    pub count: usize,
-    pub numbers: [u64; 10],
-}
-
-// What a line gives that cannot be a command.
-fn nothing_given() -> Given
-    ensures { λ r. ⌜ r .good ≡ false ⌝ }
-    ensures { λ r. ⌜ r .count ≡ 0 ⌝ }
+// Which of a text's words this is, counted from 0; where it is none of them, how many there are.
+pub fn place_of(text: &[u8], word: &[u8]) -> usize
+    ensures { λ r. ⌜ r ≡ placeIn (words (now (text .entry))) (now (word .entry)) ⌝ }
 {
-    Given {
-        good: false,
-        count: 0,
-        numbers: [0; 10],
-    }
-}
-
-// All words from `from` on, read as numbers.
-pub fn numbers_from(line: &[u8], from: usize) -> Given
-    requires { ⌜ from ≤ length (now line) ⌝ }
-    ensures { λ r. ⌜ given r ≡ numbersOf 10 (words (drop from (now (line .entry)))) ⌝ }
-    ensures { λ r. ⌜ r .count ≤ 10 ⌝ }
-{
-    let mut numbers = [0u64; 10];
-    let mut count = 0;
-    let mut at = skip_blanks(line, from);
-    while at < line.len() {
-        if count == MOST {
-            return nothing_given();
+    let mut passed = 0;
+    let mut at = skip_blanks(text, 0);
+    while at < text.len() {
+        let end = word_end(text, at);
+        if same(word, &text[at..end]) {
+            return passed;
         }
-        let end = word_end(line, at);
-        let word = read(&line[at..end], MAX_U64);
-        let Number::Value(value) = word else {
-            return nothing_given();
-        };
-        numbers[count] = value;
-        count += 1;
-        at = skip_blanks(line, end);
+        passed += 1;
+        at = skip_blanks(text, end);
     }
-    Given {
-        good: true,
-        count,
-        numbers,
-    }
+    passed
 }

@@ -1,3 +1,3 @@
--- What the proofs of several functions use.
-pub mod TokenLaws
-pub mod UnevenLaws
+-- What the proofs of several functions use, and what callers cite.
+pub mod MarkLaws
+pub mod HeadLaws

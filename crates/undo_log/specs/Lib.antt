@@ -1,2 +1,2 @@
-pub mod Found
-pub mod Uneven
+pub mod Settled
+pub mod HeadCalls

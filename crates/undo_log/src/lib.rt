@@ -1,4 +1,4 @@
-// The state, its marks and tokens: from ena's `undo_log`. Nothing here reads or writes rows and entries.
+// Heads, marks and tokens: from ena's `undo_log`. Nothing here reads or writes rows and entries.
 pub mod marks;
 pub mod state;
 pub mod tokens;

@@ -1,41 +1,43 @@
 ghost use mathlib.Core.Path.{_≡_};
-ghost use Prim.Native.Nat.{_≤_, _<_};
+ghost use Prim.Native.Nat.{_≤_};
 ghost use Rattle.rules.specs.Numbers.{MAX-OPEN};
-ghost use Rattle.rules.specs.Tokens.{innermost, notInnermost, seek, unfit};
-ghost use Rattle.undo_log.specs.Found.{markOf};
-use rules::numbers::BROKEN_TABLE;
-use rules::numbers::NOT_OPEN;
+ghost use Rattle.rules.specs.Tokens.{seek, unfit};
+ghost use Rattle.undo_log.specs.Settled.{latest, markFor};
+use rules::call::Call;
+use rules::numbers::MAX_OPEN;
+use rules::table::Head;
 use rules::table::Mark;
 use rules::table::Sought;
 use rules::table::State;
 
-// The mark of the innermost open snapshot.
-pub fn innermost(state: State) -> Mark
-    requires { ⌜ 0 < state .«open» ⌝ }
-    requires { ⌜ state .«open» ≤ MAX-OPEN ⌝ }
-    ensures { λ r. ⌜ r ≡ innermost state ⌝ }
+// Whether a mark cannot be this head's.
+pub fn unfit(head: Head, mark: Mark) -> bool
+    ensures { λ r. ⌜ r ≡ unfit head mark ⌝ }
 {
-    let at = state.open as usize - 1;
-    state.marks[at]
-}
-
-// Whether no snapshot is open, or the token isn't the innermost one's.
-pub fn not_innermost(state: State, token: u64) -> bool
-    requires { ⌜ state .«open» ≤ MAX-OPEN ⌝ }
-    ensures { λ r. ⌜ r ≡ notInnermost state token ⌝ }
-{
-    if state.open == 0 {
+    if head.used < mark.log_len {
         return true;
     }
-    let mark = innermost(state);
-    if mark.serial == token {
-        return false;
+    head.count < mark.keys
+}
+
+// The innermost mark, where the token is its own.
+fn latest(state: State, token: u64) -> Sought
+    requires { ⌜ state .«open» ≤ MAX-OPEN ⌝ }
+    ensures { λ r. ⌜ r ≡ latest state token ⌝ }
+{
+    if state.open == 0 {
+        return Sought::Missing;
     }
-    true
+    let at = state.open as usize - 1;
+    let mark = state.marks[at];
+    if mark.serial == token {
+        return Sought::Held(mark);
+    }
+    Sought::Missing
 }
 
 // The mark that a token names, from the innermost outwards.
-pub fn seek(state: State, token: u64) -> Sought
+fn seek(state: State, token: u64) -> Sought
     requires { ⌜ state .«open» ≤ MAX-OPEN ⌝ }
     ensures { λ r. ⌜ r ≡ seek state token (state .«open») ⌝ }
 {
@@ -50,38 +52,19 @@ pub fn seek(state: State, token: u64) -> Sought
     Sought::Missing
 }
 
-// Whether a mark cannot be this state's.
-pub fn unfit(state: State, mark: Mark) -> bool
-    ensures { λ r. ⌜ r ≡ unfit state mark ⌝ }
+// The mark that a call is about: none where the call names no token, or the state is bad.
+pub fn mark_for(state: State, call: Call) -> Sought
+    ensures { λ r. ⌜ r ≡ markFor state call ⌝ }
 {
-    if state.used < mark.log_len {
-        return true;
+    if state.open > MAX_OPEN {
+        return Sought::Missing;
     }
-    if state.count < mark.keys {
-        return true;
-    }
-    false
-}
-
-// The mark that a question is about, or the refusal.
-pub enum Found {
-    No(u32),
-    Mark(Mark),
-}
-
-// The mark that a token names: NOT_OPEN where there is none, BROKEN_TABLE where it is unfit.
-pub fn mark_of(state: State, token: u64) -> Found
-    requires { ⌜ state .«open» ≤ MAX-OPEN ⌝ }
-    ensures { λ r. ⌜ r ≡ markOf state token ⌝ }
-{
-    let sought = seek(state, token);
-    match sought {
-        Sought::Missing => Found::No(NOT_OPEN),
-        Sought::Held(mark) => {
-            if unfit(state, mark) {
-                return Found::No(BROKEN_TABLE);
-            }
-            Found::Mark(mark)
-        }
+    match call {
+        Call::Rollback(token) => latest(state, token),
+        Call::Commit(token) => latest(state, token),
+        Call::Keys(token) => seek(state, token),
+        Call::Actions(token) => seek(state, token),
+        Call::Changes(token) => seek(state, token),
+        _ => Sought::Missing,
     }
 }

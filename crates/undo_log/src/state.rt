@@ -1,102 +1,45 @@
 ghost use mathlib.Core.Path.{_≡_};
 ghost use Rattle.rules.specs.Refusal.{sizes, bad};
-ghost use Rattle.undo_log.specs.Uneven.{uneven};
+use rules::numbers::CROWN;
+use rules::numbers::ENTRY;
 use rules::numbers::MAX_ENTRIES;
 use rules::numbers::MAX_OPEN;
 use rules::numbers::MAX_ROWS;
-use rules::table::State;
+use rules::table::Head;
 
-// Whether the state, or the lengths of the ten lent parts, are no table's: BAD_STATE.
-pub fn bad_state(
-    state: State,
-    parents: usize,
-    ranks: usize,
-    owners: usize,
-    amounts: usize,
-    logkinds: usize,
-    logkeys: usize,
-    logparents: usize,
-    logranks: usize,
-    logowners: usize,
-    logamounts: usize,
-) -> bool
-    ensures { λ r. ⌜ r ≡ bad (sizes parents ranks owners amounts logkinds logkeys logparents logranks logowners logamounts) state ⌝ }
+// Whether the head, or the lengths of the four lent parts, are no table's: BAD_STATE.
+pub fn bad_state(head: Head, parents: usize, crowns: usize, amounts: usize, log: usize) -> bool
+    ensures { λ r. ⌜ r ≡ bad (sizes parents crowns amounts log) head ⌝ }
 {
     if parents > MAX_ROWS {
         return true;
     }
-    if logkinds > MAX_ENTRIES {
+    if log > MAX_ENTRIES * ENTRY {
         return true;
     }
-    if uneven(
-        parents,
-        ranks,
-        owners,
-        amounts,
-        logkinds,
-        logkeys,
-        logparents,
-        logranks,
-        logowners,
-        logamounts,
-    ) {
-        return true;
-    }
-    if state.count as usize > parents {
-        return true;
-    }
-    if state.used as usize > logkinds {
-        return true;
-    }
-    if state.open > MAX_OPEN {
-        return true;
-    }
-    if state.open > 0 {
-        return false;
-    }
-    if state.used != 0 {
-        return true;
-    }
-    false
-}
-
-// Whether the rows' four lent parts, or the log's six, differ in length.
-fn uneven(
-    parents: usize,
-    ranks: usize,
-    owners: usize,
-    amounts: usize,
-    logkinds: usize,
-    logkeys: usize,
-    logparents: usize,
-    logranks: usize,
-    logowners: usize,
-    logamounts: usize,
-) -> bool
-    ensures { λ r. ⌜ r ≡ uneven (sizes parents ranks owners amounts logkinds logkeys logparents logranks logowners logamounts) ⌝ }
-{
-    if ranks != parents {
-        return true;
-    }
-    if owners != parents {
+    if crowns != parents * CROWN {
         return true;
     }
     if amounts != parents {
         return true;
     }
-    if logkeys != logkinds {
+    if log % ENTRY != 0 {
         return true;
     }
-    if logparents != logkinds {
+    let entries = log / ENTRY;
+    if head.count as usize > parents {
         return true;
     }
-    if logranks != logkinds {
+    if head.used as usize > entries {
         return true;
     }
-    if logowners != logkinds {
+    if head.open > MAX_OPEN {
         return true;
     }
-    if logamounts != logkinds {
+    if head.open > 0 {
+        return false;
+    }
+    if head.used != 0 {
         return true;
     }
     false

@@ -1,115 +1,206 @@
+// The calls that neither read nor write rows and entries, over a head, the last serial and the mark in question.
 ghost use mathlib.Core.Path.{_≡_};
-ghost use Prim.Native.Nat.{_≤_};
-ghost use Rattle.rules.specs.Numbers.{MAX-OPEN};
-ghost use Rattle.rules.specs.Tokens.{len, snapshot, commit, keysSince, actionsSince, hasChanges};
-use crate::marks::Found;
-use rules::answer::done;
+ghost use Prim.Native.Nat.{_-_, _≤_};
+ghost use lib.Dec.{ltb};
+ghost use Rattle.rules.specs.Numbers.{MAX-OPEN, BROKEN-TABLE};
+ghost use Rattle.rules.specs.Answer.{refusal, range, said};
+ghost use Rattle.rules.specs.Tokens.{unfit, stranded, committed};
+ghost use Rattle.undo_log.specs.Settled.{settled, refuseHead};
+ghost use Rattle.undo_log.specs.HeadCalls.{snapshotOn, commitOn, askedOn, onHead};
+use crate::marks::unfit;
 use rules::answer::opened;
-use rules::answer::ranged;
-use rules::answer::refused;
-use rules::answer::told;
-use rules::call::Answered;
+use rules::answer::range;
+use rules::answer::refusal;
+use rules::answer::said;
+use rules::call::Answer;
 use rules::numbers::BROKEN_TABLE;
+use rules::numbers::DONE;
 use rules::numbers::MAX_OPEN;
 use rules::numbers::MAX_U64;
 use rules::numbers::NOT_INNERMOST;
+use rules::numbers::NOT_OPEN;
 use rules::numbers::SERIALS_SPENT;
 use rules::numbers::TOO_DEEP;
+use rules::table::Head;
 use rules::table::Mark;
-use rules::table::State;
+use rules::table::Sought;
+
+// What a call answers, and the head that it leaves.
+pub struct Settled {
+    pub answer: Answer,
+    pub head: Head,
+}
+
+pub enum HeadCall {
+    Len,
+    Snapshot,
+    Commit(u64),
+    Keys(u64),
+    Actions(u64),
+    Changes(u64),
+}
+
+// A refusal leaves the head as it is.
+fn refused(no: u32, head: Head) -> Settled
+    ensures { λ r. ⌜ r ≡ settled (refusal no) head ⌝ }
+{
+    let answer = refusal(no);
+    Settled { answer, head }
+}
 
 // How many keys there are.
-pub fn len(state: State) -> Answered
-    ensures { λ r. ⌜ r ≡ len state ⌝ }
+fn len(head: Head) -> Settled
+    ensures { λ r. ⌜ r ≡ settled (range 0 (head .count)) head ⌝ }
 {
-    ranged(0, state.count, state)
+    let answer = range(0, head.count);
+    Settled { answer, head }
 }
 
 // Opens a snapshot; its token is the next serial.
-pub fn snapshot(state: State) -> Answered
-    requires { ⌜ state .«open» ≤ MAX-OPEN ⌝ }
-    ensures { λ r. ⌜ r ≡ snapshot state ⌝ }
+fn snapshot(head: Head, last: u64) -> Settled
+    requires { ⌜ head .«open» ≤ MAX-OPEN ⌝ }
+    ensures { λ r. ⌜ r ≡ snapshotOn head last ⌝ }
 {
-    if state.open == MAX_OPEN {
-        return refused(TOO_DEEP, state);
+    if head.open == MAX_OPEN {
+        return refused(TOO_DEEP, head);
     }
-    if state.last == MAX_U64 {
-        return refused(SERIALS_SPENT, state);
+    if last == MAX_U64 {
+        return refused(SERIALS_SPENT, head);
     }
-    let serial = state.last + 1;
-    let at = state.open as usize;
-    let mut marks = state.marks;
-    marks[at] = Mark {
-        serial,
-        log_len: state.used,
-        keys: state.count,
+    let serial = last + 1;
+    let answer = opened(serial);
+    let deeper = Head {
+        count: head.count,
+        used: head.used,
+        open: head.open + 1,
     };
-    let after = State {
-        count: state.count,
-        used: state.used,
-        open: state.open + 1,
-        last: serial,
-        marks,
-    };
-    opened(serial, after)
+    Settled {
+        answer,
+        head: deeper,
+    }
 }
 
-// Closes the innermost snapshot and keeps what was done in it; closing the only one empties the log.
-pub fn commit(state: State, token: u64) -> Answered
-    requires { ⌜ state .«open» ≤ MAX-OPEN ⌝ }
-    ensures { λ r. ⌜ r ≡ commit state token ⌝ }
+// How many snapshots are open once the innermost is closed.
+pub fn closed(opened: u32) -> u32
+    ensures { λ r. ⌜ r ≡ opened - 1 ⌝ }
 {
-    if crate::marks::not_innermost(state, token) {
-        return refused(NOT_INNERMOST, state);
+    if opened == 0 {
+        return 0;
     }
-    let mark = crate::marks::innermost(state);
-    if crate::marks::unfit(state, mark) {
-        return refused(BROKEN_TABLE, state);
-    }
-    let mut after = state;
-    after.open = state.open - 1;
-    if state.open > 1 {
-        return done(after);
-    }
-    if mark.log_len > 0 {
-        return refused(BROKEN_TABLE, state);
-    }
-    after.used = 0;
-    done(after)
+    opened - 1
 }
 
-// The keys made since the snapshot that a token names.
-pub fn keys_since(state: State, token: u64) -> Answered
-    requires { ⌜ state .«open» ≤ MAX-OPEN ⌝ }
-    ensures { λ r. ⌜ r ≡ keysSince state token ⌝ }
+// Whether the only open mark has entries before it, which emptying the log would lose.
+fn stranded(head: Head, mark: Mark) -> bool
+    ensures { λ r. ⌜ r ≡ stranded head mark ⌝ }
 {
-    let found = crate::marks::mark_of(state, token);
-    match found {
-        Found::No(no) => refused(no, state),
-        Found::Mark(mark) => ranged(mark.keys, state.count, state),
+    if head.open != 1 {
+        return false;
+    }
+    mark.log_len > 0
+}
+
+// The head once the innermost snapshot is closed and its entries are kept; closing the only one empties the log.
+fn committed(head: Head) -> Head
+    ensures { λ r. ⌜ r ≡ committed head ⌝ }
+{
+    let open = closed(head.open);
+    if head.open == 1 {
+        return Head {
+            count: head.count,
+            used: 0,
+            open,
+        };
+    }
+    Head {
+        count: head.count,
+        used: head.used,
+        open,
+    }
+}
+
+fn commit(head: Head, sought: Sought) -> Settled
+    ensures { λ r. ⌜ r ≡ commitOn head sought ⌝ }
+{
+    match sought {
+        Sought::Missing => refused(NOT_INNERMOST, head),
+        Sought::Held(mark) => {
+            if unfit(head, mark) {
+                return refused(BROKEN_TABLE, head);
+            }
+            if stranded(head, mark) {
+                return refused(BROKEN_TABLE, head);
+            }
+            let answer = refusal(DONE);
+            let after = committed(head);
+            Settled {
+                answer,
+                head: after,
+            }
+        }
+    }
+}
+
+// The answer to a question about a mark, where the mark is fit.
+fn if_fit(head: Head, mark: Mark, answer: Answer) -> Settled
+    ensures { λ r. ⌜ r ≡ refuseHead (unfit head mark) BROKEN-TABLE head (settled answer head) ⌝ }
+{
+    if unfit(head, mark) {
+        return refused(BROKEN_TABLE, head);
+    }
+    Settled { answer, head }
+}
+
+// The keys made since a snapshot.
+fn keys_since(head: Head, sought: Sought) -> Settled
+    ensures { λ r. ⌜ r ≡ askedOn head (λ m. range (m .keys) (head .count)) sought ⌝ }
+{
+    match sought {
+        Sought::Missing => refused(NOT_OPEN, head),
+        Sought::Held(mark) => {
+            let answer = range(mark.keys, head.count);
+            if_fit(head, mark, answer)
+        }
     }
 }
 
 // Where in the log the entries since a snapshot lie.
-pub fn actions_since(state: State, token: u64) -> Answered
-    requires { ⌜ state .«open» ≤ MAX-OPEN ⌝ }
-    ensures { λ r. ⌜ r ≡ actionsSince state token ⌝ }
+fn actions_since(head: Head, sought: Sought) -> Settled
+    ensures { λ r. ⌜ r ≡ askedOn head (λ m. range (m .«log_len») (head .used)) sought ⌝ }
 {
-    let found = crate::marks::mark_of(state, token);
-    match found {
-        Found::No(no) => refused(no, state),
-        Found::Mark(mark) => ranged(mark.log_len, state.used, state),
+    match sought {
+        Sought::Missing => refused(NOT_OPEN, head),
+        Sought::Held(mark) => {
+            let answer = range(mark.log_len, head.used);
+            if_fit(head, mark, answer)
+        }
     }
 }
 
 // Whether anything was logged since a snapshot.
-pub fn has_changes(state: State, token: u64) -> Answered
-    requires { ⌜ state .«open» ≤ MAX-OPEN ⌝ }
-    ensures { λ r. ⌜ r ≡ hasChanges state token ⌝ }
+fn has_changes(head: Head, sought: Sought) -> Settled
+    ensures { λ r. ⌜ r ≡ askedOn head (λ m. said (ltb (m .«log_len») (head .used)) 0) sought ⌝ }
 {
-    let found = crate::marks::mark_of(state, token);
-    match found {
-        Found::No(no) => refused(no, state),
-        Found::Mark(mark) => told(mark.log_len < state.used, state),
+    match sought {
+        Sought::Missing => refused(NOT_OPEN, head),
+        Sought::Held(mark) => {
+            let answer = said(mark.log_len < head.used, 0);
+            if_fit(head, mark, answer)
+        }
+    }
+}
+
+// Any of these calls, where the mark that it is about is at hand.
+pub fn on_head(head: Head, last: u64, sought: Sought, call: HeadCall) -> Settled
+    requires { ⌜ head .«open» ≤ MAX-OPEN ⌝ }
+    ensures { λ r. ⌜ r ≡ onHead head last sought call ⌝ }
+{
+    match call {
+        HeadCall::Len => len(head),
+        HeadCall::Snapshot => snapshot(head, last),
+        HeadCall::Commit(_) => commit(head, sought),
+        HeadCall::Keys(_) => keys_since(head, sought),
+        HeadCall::Actions(_) => actions_since(head, sought),
+        HeadCall::Changes(_) => has_changes(head, sought),
     }
 }

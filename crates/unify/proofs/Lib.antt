@@ -1,3 +1,3 @@
--- What the proofs of several functions use, and that a contract leaves no choice.
-pub mod CallLaws
+-- What the proofs of several functions use, and that no two outcomes meet a contract.
+pub mod AfterLaws
 pub mod Unique

@@ -4,7 +4,6 @@ use mathlib.Core.Path.{_≡_, sym, ap, _∙_}
 use Rattle.rules.specs.declared.call.Answer.{Answer}
 use Rattle.rules.specs.declared.call.Answered.{Answered}
 use Rattle.rules.specs.declared.call.Call.{Call}
-use Rattle.rules.specs.declared.table.State.{State}
 use Rattle.rules.specs.Lent.{Rows, Log, Table, table}
 use Rattle.rules.specs.Refusal.{Outcome}
 use Rattle.rules.specs.Contract.{outcomeOf}

@@ -1,5 +1,3 @@
-// The table's calls. From ena's `unify`.
+// The table over a state by value, as ena has it: thin over crate `table`.
 pub mod calls;
-pub mod keys;
-pub mod rows;
-pub mod tokens;
+mod state;

@@ -1,20 +1,16 @@
--- `core::action_of` meets its contract: the entry of the range that is answered. Assumes nothing.
-use mathlib.Core.Path.{_∙_, ap}
-use borrow.Author.Needs.{needs}
-use Rattle.rules.specs.declared.table.UndoLog.{UndoLog}
-use Rattle.rules.specs.Lent.{entryAt}
-use Rattle.rules.specs.Tokens.{actionsView}
-use Rattle.rules.specs.Contract.{logNow}
+-- `core::action_of` meets its contract, kind by kind. Assumes nothing.
+use borrow.Author.Tests.{eq-eqb, ne-eqb}
 use Rattle.actions.proofs.core.action_of.Statement.{statement}
 use Rattle.actions.proofs.core.action_of.Tie as tie
 
 returns : tie.Need-returns
-returns c =
-    let a = c .before .before .before .before .before .before .before .before .before .before .before .before .args in
-    let l = logNow (a .logkinds) (a .logkeys) (a .logparents) (a .logranks) (a .logowners) (a .logamounts) in
-    c .entry-between .ensures ∙ ap {B = UndoLog} (λ o. entryAt (actionsView l (o .answer)) (a .i)) (c .before .answer-of .ensures)
+returns c = rw (eq-eqb _ _ (c .if1 .taken))
+
+returns-2 : tie.Need-returns-2
+returns-2 c = rw (ne-eqb _ _ (c .before .before .before .if1 .left), eq-eqb _ _ (c .before .if2 .taken))
+
+returns-3 : tie.Need-returns-3
+returns-3 c = rw (ne-eqb _ _ (c .before .before .if1 .left), ne-eqb _ _ (c .if2 .left))
 
 pub action-of-spec : {M : Type 1} → statement M
-action-of-spec =
-    tie.close
-    (tie.spec (λ c κs. search needs) (λ c κs. search needs) returns)
+action-of-spec = tie.close (tie.spec returns returns-2 returns-3)

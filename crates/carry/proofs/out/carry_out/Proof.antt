@@ -1,93 +1,111 @@
--- `out::carry_out` meets its contract: both walks, then the end. Assumes nothing.
+use mathlib.Core.Path.{_∙_}
+use Prim.Native.Nat.{_+_}
 use native.Mathlib.Omega.{arith}
 use lib.ListN.{length}
-use borrow.Author.Needs.{needs}
-use Prim.Native.Nat.{_+_, _-_}
+use denote.Ref.{now}
 use Rattle.rules.specs.Write.{Memory, memory}
-use Rattle.rules.specs.Contract.{rowsNow, logNow}
-use Rattle.plans.specs.Plans.{finishOf, walkOf}
+use Rattle.rules.specs.Contract.{memoryNow}
+use Rattle.roots.specs.Trail.{walkOf}
+use Rattle.roots.proofs.TrailLaws.{walk-length}
+use Rattle.plans.specs.Plans.{finishOf}
 use Rattle.carry.specs.Ready.{Ready}
-use Rattle.carry.proofs.ReadyLaws.{ready-less, ready-puts, sound-after, walk-length, todo-length, puts-three}
+use Rattle.carry.proofs.ReadyLaws.{ready-less, ready-puts, puts-three, sound-after}
 use Rattle.carry.proofs.out.carry_out.Statement.{statement}
 use Rattle.carry.proofs.out.carry_out.Tie as tie
 
-abbrev mem : tie.Start → Memory
-mem e =
-    let a = e .args in
-    memory (rowsNow (a .parents) (a .ranks) (a .owners) (a .amounts))
-    (logNow (a .logkinds) (a .logkeys) (a .logparents) (a .logranks) (a .logowners) (a .logamounts)) (a .opened) (a .used)
+-- from each call back to the one before it
+abbrev start : tie.After-rewrite → tie.Start
+start k = k .before .before .before .before .before .before .before .before .before
 
--- the memory is ready for both walks and the end
-ready : (e : tie.Start)
-    → Ready (e .args .count)
-    ((e .args .todo .first .steps - 1) + (e .args .todo .second .steps - 1) + length (finishOf (e .args .todo .finish))) (mem e)
-ready e = ready-less (e .pre .0) _ (omega (arith, todo-length (mem e .rows) (e .args .count) (e .args .todo) (e .pre .1)))
+abbrev first : tie.After-rewrite2 → tie.After-rewrite
+first k = k .before .before .before .before .before .before .before .before .before
+
+abbrev second : tie.After-finish → tie.After-rewrite2
+second k = k .before .before .before .before .before .before .before .before .before
+
+abbrev mem : tie.Start → Memory
+mem e = let a = e .args in memoryNow (a .parents) (a .crowns) (a .amounts) (a .log) (a .opened) (a .used)
+
+-- the memory after a's walk, after b's, and after the end
+abbrev one : tie.After-rewrite → Memory
+one k =
+    let a = start k .args in
+    memory (record { parents = k .rewrite .last .0; crowns = now (a .crowns); amounts = now (a .amounts) }) (k .rewrite .last .1 .1 .1 .0)
+    (a .opened) (k .rewrite .result)
+
+abbrev two : tie.After-rewrite2 → Memory
+two k =
+    let a = start (first k) .args in
+    memory (record { parents = k .rewrite2 .last .0; crowns = now (a .crowns); amounts = now (a .amounts) }) (k .rewrite2 .last .1 .1 .1 .0)
+    (a .opened) (k .rewrite2 .result)
+
+abbrev three : tie.After-finish → Memory
+three k =
+    let a = start (first (second k)) .args in
+    memory (record { parents = k .finish .last .0; crowns = k .finish .last .1 .0; amounts = k .finish .last .1 .1 .0 }) (k .finish .last .1 .1 .1 .0)
+    (a .opened) (k .finish .result)
+
+-- after a's walk, there is room for the rest
+ready-one : (k : tie.After-rewrite)
+    → let a = start k .args in Ready (a .count) (length (walkOf (a .second)) + length (finishOf (a .end))) (one k)
+ready-one k =
+    let e = start k in
+    let a = e .args in
+    ready-puts (a .count) (length (walkOf (a .second)) + length (finishOf (a .end))) (mem e) (one k) (walkOf (a .first))
+    (k .rewrite .ensures) (e .pre .0)
 
 rewrite-requires : tie.Need-rewrite-requires
 rewrite-requires c κs =
-    let e = c .before .before .before .before .before .before .before .before .before .before .before .before .before .before .before .before .before .before .before .before .before .before in
-    (e .pre .1 .first, ready-less (ready e) _ (omega arith))
+    let e = c .before .before .before .before .before .before .before .before in
+    let s = e .pre .1 .0 in
+    (s, ready-less (e .pre .0) _ (omega (arith, walk-length (e .args .first) (s .short))))
 
 rewrite-requires-2 : tie.Need-rewrite-requires-2
 rewrite-requires-2 c κs =
-    let e = c .before .before .before .before .before .before .before .before .before .before .before .before .before .before .before .before .before .before .before .before .before .before .before .before .before .before .before .before .before .before .before .before .before .before .before .before .before .before .before .before .before .before .before .before .before .before .before in
+    let k = c .before .before .before .before .before .before .before .before in
+    let e = start k in
     let a = e .args in
-    let D = e .pre .1 in
-    let long = walk-length (mem e .rows .parents) (a .count) (a .todo .first) (D .first) in
-    let R = ready-puts (a .count) ((a .todo .second .steps - 1) + length (finishOf (a .todo .finish))) (mem e) _ (walkOf (a .todo .first)) (c .before .before .before .before .before .before .before .before .before .before .before .before .before .before .before .before .before .before .before .before .before .before .before .before .rewrite .ensures)
-    (ready-less (ready e) _ (omega arith)) in
-    (sound-after (mem e) _ (a .todo .first) (a .todo .second) (a .count) (c .before .before .before .before .before .before .before .before .before .before .before .before .before .before .before .before .before .before .before .before .before .before .before .before .rewrite .ensures) (D .second), ready-less R _ (omega arith))
+    let s = e .pre .1 .1 .0 in (
+      sound-after (mem e) (one k) (a .first) (a .second) (a .count) (k .rewrite .ensures) s,
+      ready-less {m = one k} (ready-one k) _ (omega (arith, walk-length (a .second) (s .short))),
+    )
 
 finish-requires : tie.Need-finish-requires
 finish-requires c κs =
-    let e = c .before .before .before .before .before .before .before .before .before .before .before .before .before .before .before .before .before .before .before .before .before .before .before .before .before .before .before .before .before .before .before .before .before .before .before .before .before .before .before .before .before .before .before .before .before .before .before .before .before .before .before .before .before .before .before .before .before .before .before .before .before .before .before .before .before .before .before .before .before .before .before .before in
-    let a = e .args in
-    let D = e .pre .1 in
-    let long = walk-length (mem e .rows .parents) (a .count) (a .todo .first) (D .first) in
-    let more = walk-length _ (a .count) (a .todo .second) (D .second) in
-    let R = ready-puts (a .count) ((a .todo .second .steps - 1) + length (finishOf (a .todo .finish))) (mem e) _ (walkOf (a .todo .first)) (c .before .before .before .before .before .before .before .before .before .before .before .before .before .before .before .before .before .before .before .before .before .before .before .before .before .before .before .before .before .before .before .before .before .before .before .before .before .before .before .before .before .before .before .before .before .before .before .before .before .rewrite .ensures)
-    (ready-less (ready e) _ (omega arith)) in
-    (ready-puts (a .count) (length (finishOf (a .todo .finish))) _ _ (walkOf (a .todo .second)) (c .before .before .before .before .before .before .before .before .before .before .before .before .before .before .before .before .before .before .before .before .before .before .before .before .rewrite2 .ensures) (ready-less R _ (omega arith)), D .finish)
+    let l = c .before .before .before .before .before .before .before .before in
+    let k = first l in
+    let a = start k .args in (
+      ready-puts (a .count) (length (finishOf (a .end))) (one k) (two l) (walkOf (a .second)) (l .rewrite2 .ensures) (ready-one k),
+      start k .pre .1 .1 .1,
+    )
+
+abbrev end : tie.After-slice-known12 → tie.After-finish
+end c = c .before .before .before .before .before .before .before .before
+
+same-length : tie.Need-same-length
+same-length c =
+    let m = end c in (m .finish .kept .0) ∙ (second m .rewrite2 .kept .0) ∙ (first (second m) .rewrite .kept .0)
+
+same-length-2 : tie.Need-same-length-2
+same-length-2 c = end c .finish .kept .1 .0
+
+same-length-3 : tie.Need-same-length-3
+same-length-3 c = end c .finish .kept .1 .1 .0
+
+same-length-4 : tie.Need-same-length-4
+same-length-4 c =
+    let m = end c in
+    (m .finish .kept .1 .1 .1 .0) ∙ (second m .rewrite2 .kept .1 .1 .1 .0) ∙ (first (second m) .rewrite .kept .1 .1 .1 .0)
 
 returns : tie.Need-returns
 returns c =
-    let e = c .before .before .before .before .before .before .before .before .before .before .before .before .before .before .before .before .before .before .before .before .before .before .before .before .before .before .before .before .before .before .before .before .before .before .before .before .before .before .before .before .before .before .before .before .before .before .before .before .before .before .before .before .before .before .before .before .before .before .before .before .before .before .before .before .before .before .before .before .before .before .before .before .before .before .before .before .before .before .before .before .before .before .before .before .before .before .before .before .before .before .before .before .before in
+    let m = end c in
+    let l = second m in
+    let k = first l in
+    let e = start k in
     let a = e .args in
-    puts-three (mem e) _ _ _ (walkOf (a .todo .first)) (walkOf (a .todo .second)) (finishOf (a .todo .finish)) (c .before .before .before .before .before .before .before .before .before .before .before .before .before .before .before .before .before .before .before .before .before .before .before .before .before .before .before .before .before .before .before .before .before .before .before .before .before .before .before .before .before .before .before .before .before .before .before .before .before .before .before .before .before .before .before .before .before .before .before .before .before .before .before .before .before .before .before .before .before .before .rewrite .ensures) (c .before .before .before .before .before .before .before .before .before .before .before .before .before .before .before .before .before .before .before .before .before .before .before .before .before .before .before .before .before .before .before .before .before .before .before .before .before .before .before .before .before .before .before .before .before .rewrite2 .ensures)
-    (c .before .before .before .before .before .before .before .before .before .before .before .before .before .before .before .before .before .before .before .before .finish .ensures)
-
-same-length : tie.Need-same-length
-same-length c = omega (arith, c .before .before .before .before .before .before .before .before .before .before .before .before .before .before .before .before .before .before .before .before .finish .kept, c .before .before .before .before .before .before .before .before .before .before .before .before .before .before .before .before .before .before .before .before .before .before .before .before .before .before .before .before .before .before .before .before .before .before .before .before .before .before .before .before .before .before .before .before .before .rewrite2 .kept, c .before .before .before .before .before .before .before .before .before .before .before .before .before .before .before .before .before .before .before .before .before .before .before .before .before .before .before .before .before .before .before .before .before .before .before .before .before .before .before .before .before .before .before .before .before .before .before .before .before .before .before .before .before .before .before .before .before .before .before .before .before .before .before .before .before .before .before .before .before .before .rewrite .kept)
-
-same-length-5 : tie.Need-same-length-5
-same-length-5 c = omega (arith, c .before .before .before .before .before .before .before .before .before .before .before .before .before .before .before .before .before .before .before .before .finish .kept, c .before .before .before .before .before .before .before .before .before .before .before .before .before .before .before .before .before .before .before .before .before .before .before .before .before .before .before .before .before .before .before .before .before .before .before .before .before .before .before .before .before .before .before .before .before .rewrite2 .kept, c .before .before .before .before .before .before .before .before .before .before .before .before .before .before .before .before .before .before .before .before .before .before .before .before .before .before .before .before .before .before .before .before .before .before .before .before .before .before .before .before .before .before .before .before .before .before .before .before .before .before .before .before .before .before .before .before .before .before .before .before .before .before .before .before .before .before .before .before .before .before .rewrite .kept)
-
-same-length-6 : tie.Need-same-length-6
-same-length-6 c = omega (arith, c .before .before .before .before .before .before .before .before .before .before .before .before .before .before .before .before .before .before .before .before .finish .kept, c .before .before .before .before .before .before .before .before .before .before .before .before .before .before .before .before .before .before .before .before .before .before .before .before .before .before .before .before .before .before .before .before .before .before .before .before .before .before .before .before .before .before .before .before .before .rewrite2 .kept, c .before .before .before .before .before .before .before .before .before .before .before .before .before .before .before .before .before .before .before .before .before .before .before .before .before .before .before .before .before .before .before .before .before .before .before .before .before .before .before .before .before .before .before .before .before .before .before .before .before .before .before .before .before .before .before .before .before .before .before .before .before .before .before .before .before .before .before .before .before .before .rewrite .kept)
-
-same-length-7 : tie.Need-same-length-7
-same-length-7 c = omega (arith, c .before .before .before .before .before .before .before .before .before .before .before .before .before .before .before .before .before .before .before .before .finish .kept, c .before .before .before .before .before .before .before .before .before .before .before .before .before .before .before .before .before .before .before .before .before .before .before .before .before .before .before .before .before .before .before .before .before .before .before .before .before .before .before .before .before .before .before .before .before .rewrite2 .kept, c .before .before .before .before .before .before .before .before .before .before .before .before .before .before .before .before .before .before .before .before .before .before .before .before .before .before .before .before .before .before .before .before .before .before .before .before .before .before .before .before .before .before .before .before .before .before .before .before .before .before .before .before .before .before .before .before .before .before .before .before .before .before .before .before .before .before .before .before .before .before .rewrite .kept)
-
-same-length-8 : tie.Need-same-length-8
-same-length-8 c = omega (arith, c .before .before .before .before .before .before .before .before .before .before .before .before .before .before .before .before .before .before .before .before .finish .kept, c .before .before .before .before .before .before .before .before .before .before .before .before .before .before .before .before .before .before .before .before .before .before .before .before .before .before .before .before .before .before .before .before .before .before .before .before .before .before .before .before .before .before .before .before .before .rewrite2 .kept, c .before .before .before .before .before .before .before .before .before .before .before .before .before .before .before .before .before .before .before .before .before .before .before .before .before .before .before .before .before .before .before .before .before .before .before .before .before .before .before .before .before .before .before .before .before .before .before .before .before .before .before .before .before .before .before .before .before .before .before .before .before .before .before .before .before .before .before .before .before .before .rewrite .kept)
-
-same-length-9 : tie.Need-same-length-9
-same-length-9 c = omega (arith, c .before .before .before .before .before .before .before .before .before .before .before .before .before .before .before .before .before .before .before .before .finish .kept, c .before .before .before .before .before .before .before .before .before .before .before .before .before .before .before .before .before .before .before .before .before .before .before .before .before .before .before .before .before .before .before .before .before .before .before .before .before .before .before .before .before .before .before .before .before .rewrite2 .kept, c .before .before .before .before .before .before .before .before .before .before .before .before .before .before .before .before .before .before .before .before .before .before .before .before .before .before .before .before .before .before .before .before .before .before .before .before .before .before .before .before .before .before .before .before .before .before .before .before .before .before .before .before .before .before .before .before .before .before .before .before .before .before .before .before .before .before .before .before .before .before .rewrite .kept)
-
-same-length-10 : tie.Need-same-length-10
-same-length-10 c = omega (arith, c .before .before .before .before .before .before .before .before .before .before .before .before .before .before .before .before .before .before .before .before .finish .kept, c .before .before .before .before .before .before .before .before .before .before .before .before .before .before .before .before .before .before .before .before .before .before .before .before .before .before .before .before .before .before .before .before .before .before .before .before .before .before .before .before .before .before .before .before .before .rewrite2 .kept, c .before .before .before .before .before .before .before .before .before .before .before .before .before .before .before .before .before .before .before .before .before .before .before .before .before .before .before .before .before .before .before .before .before .before .before .before .before .before .before .before .before .before .before .before .before .before .before .before .before .before .before .before .before .before .before .before .before .before .before .before .before .before .before .before .before .before .before .before .before .before .rewrite .kept)
-
-same-length-2 : tie.Need-same-length-2
-same-length-2 c = search needs
-
-same-length-3 : tie.Need-same-length-3
-same-length-3 c = search needs
-
-same-length-4 : tie.Need-same-length-4
-same-length-4 c = search needs
+    puts-three (mem e) (one k) (two l) (three m) (walkOf (a .first)) (walkOf (a .second)) (a .end) (k .rewrite .ensures)
+    (l .rewrite2 .ensures) (m .finish .ensures)
 
 pub carry-out-spec : {M : Type 1} → statement M
-carry-out-spec =
-    tie.close
-    (tie.spec rewrite-requires rewrite-requires-2 finish-requires same-length same-length-2 same-length-3 same-length-4 same-length-5
-    same-length-6 same-length-7 same-length-8 same-length-9 same-length-10 returns)
+carry-out-spec = tie.close (tie.spec rewrite-requires rewrite-requires-2 finish-requires same-length same-length-2 same-length-3 same-length-4 returns)

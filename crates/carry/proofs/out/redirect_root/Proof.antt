@@ -1,57 +1,71 @@
--- `out::redirect_root` meets its contract: two writes, one after the other. Assumes nothing.
+use mathlib.Core.Path.{_∙_}
 use native.Mathlib.Omega.{arith}
-use borrow.Author.Needs.{needs}
+use denote.Ref.{now}
 use Rattle.rules.specs.Write.{Memory, memory, redirect, crown}
-use Rattle.rules.specs.Contract.{rowsNow, logNow}
+use Rattle.rules.specs.Contract.{memoryNow}
+use Rattle.carry.specs.Ready.{Ready}
 use Rattle.carry.proofs.ReadyLaws.{ready-row, ready-entry, ready-put, put-two}
 use Rattle.carry.proofs.out.redirect_root.Statement.{statement}
 use Rattle.carry.proofs.out.redirect_root.Tie as tie
 
+-- from each call back to the one before it
+abbrev start : tie.After-redirect → tie.Start
+start k = k .before .before .before .before .before .before .before .before .before
+
+abbrev first : tie.After-crown → tie.After-redirect
+first k = k .before .before .before .before .before .before .before .before .before
+
 abbrev mem : tie.Start → Memory
-mem e =
-    let a = e .args in
-    memory (rowsNow (a .parents) (a .ranks) (a .owners) (a .amounts))
-    (logNow (a .logkinds) (a .logkeys) (a .logparents) (a .logranks) (a .logowners) (a .logamounts)) (a .opened) (a .used)
+mem e = let a = e .args in memoryNow (a .parents) (a .crowns) (a .amounts) (a .log) (a .opened) (a .used)
+
+-- the memory after the redirect, and after the crown
+abbrev one : tie.After-redirect → Memory
+one k =
+    let a = start k .args in
+    memory (record { parents = k .redirect .last .0; crowns = now (a .crowns); amounts = now (a .amounts) }) (k .redirect .last .1 .1 .1 .0)
+    (a .opened) (k .redirect .result)
+
+abbrev two : tie.After-crown → Memory
+two k =
+    let a = start (first k) .args in
+    memory (record { parents = one (first k) .rows .parents; crowns = k .crown .last .1 .0; amounts = k .crown .last .1 .1 .0 })
+    (k .crown .last .1 .1 .1 .0) (a .opened) (k .crown .result)
 
 redirect-requires : tie.Need-redirect-requires
-redirect-requires c κs = let e = c .before .before .before .before .before .before .before .before .before .before .before .before .before .before .before .before .before .before .before .before in (ready-row (e .pre .0) (e .pre .1 .0), ready-entry (e .pre .0) (omega arith))
+redirect-requires c κs = let e = c .before .before .before .before .before .before .before .before in (ready-row (e .pre .0) (e .pre .1 .0), ready-entry (e .pre .0) (omega arith))
 
 crown-requires : tie.Need-crown-requires
 crown-requires c κs =
-    let e = c .before .before .before .before .before .before .before .before .before .before .before .before .before .before .before .before .before .before .before .before .before .before .before .before .before .before .before .before .before .before .before .before .before .before .before .before .before .before .before .before .before .before .before .before .before in
+    let k = c .before .before .before .before .before .before .before .before in
+    let e = start k in
     let a = e .args in
-    let R = ready-put (a .count) 1 (mem e) _ (redirect (a .old-root) (a .new-root)) (c .before .before .before .before .before .before .before .before .before .before .before .before .before .before .before .before .before .before .before .before .before .before .before .before .redirect .ensures) (e .pre .0) in
-    (ready-row R (e .pre .1 .1), ready-entry R (omega arith))
+    let R : Ready (a .count) 1 (one k) =
+    ready-put (a .count) 1 (mem e) (one k) (redirect (a .old-root) (a .new-root)) (k .redirect .ensures) (e .pre .0) in
+    (ready-row {m = one k} R (e .pre .1 .1), ready-entry {m = one k} R (omega arith))
+
+abbrev end : tie.After-slice-known9 → tie.After-crown
+end c = c .before .before .before .before .before .before
+
+same-length : tie.Need-same-length
+same-length c = first (end c) .redirect .kept .0
+
+same-length-2 : tie.Need-same-length-2
+same-length-2 c = end c .crown .kept .1 .0
+
+same-length-3 : tie.Need-same-length-3
+same-length-3 c = end c .crown .kept .1 .1 .0
+
+same-length-4 : tie.Need-same-length-4
+same-length-4 c = (end c .crown .kept .1 .1 .1 .0) ∙ (first (end c) .redirect .kept .1 .1 .1 .0)
 
 returns : tie.Need-returns
 returns c =
-    let e = c .before .before .before .before .before .before .before .before .before .before .before .before .before .before .before .before .before .before .before .before .before .before .before .before .before .before .before .before .before .before .before .before .before .before .before .before .before .before .before .before .before .before .before .before .before .before .before .before .before .before .before .before .before .before .before .before .before .before .before .before .before .before .before .before in
+    let l = end c in
+    let k = first l in
+    let e = start k in
     let a = e .args in
-    put-two (mem e) _ _ (redirect (a .old-root) (a .new-root)) (crown (a .new-root) (a .new-rank) (a .new-value)) (c .before .before .before .before .before .before .before .before .before .before .before .before .before .before .before .before .before .before .before .before .before .before .before .before .before .before .before .before .before .before .before .before .before .before .before .before .before .before .before .before .before .before .before .redirect .ensures) (c .before .before .before .before .before .before .before .before .before .before .before .before .before .before .before .before .before .before .crown .ensures)
-
-same-length : tie.Need-same-length
-same-length c = omega (arith, c .before .before .before .before .before .before .before .before .before .before .before .before .before .before .before .before .before .before .crown .kept, c .before .before .before .before .before .before .before .before .before .before .before .before .before .before .before .before .before .before .before .before .before .before .before .before .before .before .before .before .before .before .before .before .before .before .before .before .before .before .before .before .before .before .before .redirect .kept)
-
-same-length-5 : tie.Need-same-length-5
-same-length-5 c = omega (arith, c .before .before .before .before .before .before .before .before .before .before .before .before .before .before .before .before .before .before .crown .kept, c .before .before .before .before .before .before .before .before .before .before .before .before .before .before .before .before .before .before .before .before .before .before .before .before .before .before .before .before .before .before .before .before .before .before .before .before .before .before .before .before .before .before .before .redirect .kept)
-
-same-length-6 : tie.Need-same-length-6
-same-length-6 c = omega (arith, c .before .before .before .before .before .before .before .before .before .before .before .before .before .before .before .before .before .before .crown .kept, c .before .before .before .before .before .before .before .before .before .before .before .before .before .before .before .before .before .before .before .before .before .before .before .before .before .before .before .before .before .before .before .before .before .before .before .before .before .before .before .before .before .before .before .redirect .kept)
-
-same-length-7 : tie.Need-same-length-7
-same-length-7 c = omega (arith, c .before .before .before .before .before .before .before .before .before .before .before .before .before .before .before .before .before .before .crown .kept, c .before .before .before .before .before .before .before .before .before .before .before .before .before .before .before .before .before .before .before .before .before .before .before .before .before .before .before .before .before .before .before .before .before .before .before .before .before .before .before .before .before .before .before .redirect .kept)
-
-same-length-8 : tie.Need-same-length-8
-same-length-8 c = omega (arith, c .before .before .before .before .before .before .before .before .before .before .before .before .before .before .before .before .before .before .crown .kept, c .before .before .before .before .before .before .before .before .before .before .before .before .before .before .before .before .before .before .before .before .before .before .before .before .before .before .before .before .before .before .before .before .before .before .before .before .before .before .before .before .before .before .before .redirect .kept)
-
-same-length-9 : tie.Need-same-length-9
-same-length-9 c = omega (arith, c .before .before .before .before .before .before .before .before .before .before .before .before .before .before .before .before .before .before .crown .kept, c .before .before .before .before .before .before .before .before .before .before .before .before .before .before .before .before .before .before .before .before .before .before .before .before .before .before .before .before .before .before .before .before .before .before .before .before .before .before .before .before .before .before .before .redirect .kept)
-
-same-length-10 : tie.Need-same-length-10
-same-length-10 c = omega (arith, c .before .before .before .before .before .before .before .before .before .before .before .before .before .before .before .before .before .before .crown .kept, c .before .before .before .before .before .before .before .before .before .before .before .before .before .before .before .before .before .before .before .before .before .before .before .before .before .before .before .before .before .before .before .before .before .before .before .before .before .before .before .before .before .before .before .redirect .kept)
+    put-two (mem e) (one k) (two l) (redirect (a .old-root) (a .new-root)) (crown (a .new-root) (a .new-rank) (a .new-value))
+    (k .redirect .ensures) (l .crown .ensures)
 
 pub redirect-root-spec : {M : Type 1} → statement M
-redirect-root-spec =
-    tie.close
-    (tie.spec redirect-requires crown-requires same-length (search needs) (search needs) (search needs) same-length-5 same-length-6
-    same-length-7 same-length-8 same-length-9 same-length-10 returns)
+redirect-root-spec = tie.close (tie.spec redirect-requires crown-requires same-length same-length-2 same-length-3 same-length-4 returns)

@@ -1,48 +1,66 @@
--- `answers::put` meets its contract: nine stores, one after the other. Assumes nothing.
-use mathlib.Core.Path.{_≡_, sym, _∙_}
+-- What is left of the fields leads to the same numbers.
+use mathlib.Core.Path.{ap}
+use Prim.Native.Nat.{_-_, _≤_}
 use native.Mathlib.Omega.{arith}
 use borrow.Author.Needs.{needs}
-use lib.ListN.{length-set}
-use Rattle.layout.proofs.AnswerLaws.{told}
+use lib.ListN.{length}
+use Rattle.rules.specs.Answer.{answerNumbers}
+use Rattle.layout.proofs.AnswerLaws.{Stored, none-stored, one-stored, all-stored}
 use Rattle.layout.proofs.answers.put.Statement.{statement}
 use Rattle.layout.proofs.answers.put.Tie as tie
 
-slice-write-answers-2 : tie.Need-slice-write-answers-2
-slice-write-answers-2 c = simp length-set (omega arith)
+abbrev Inv-loop : tie.InvT-loop
+Inv-loop answers₀ at fields i₀ answers i = (i ≤ 9) × Stored answers₀ answers fields at i
 
-slice-write-answers-3 : tie.Need-slice-write-answers-3
-slice-write-answers-3 c = simp length-set (omega arith)
+abbrev μ-loop : tie.MeasureT-loop
+μ-loop answers₀ at fields i₀ answers i = 9 - i
 
-slice-write-answers-4 : tie.Need-slice-write-answers-4
-slice-write-answers-4 c = simp length-set (omega arith)
+answer-numbers-requires : tie.Need-answer-numbers-requires Inv-loop μ-loop
+answer-numbers-requires c κs = search needs
 
-slice-write-answers-5 : tie.Need-slice-write-answers-5
-slice-write-answers-5 c = simp length-set (omega arith)
+loop-holds : tie.Need-loop-holds Inv-loop μ-loop
+loop-holds c = let g = c .before .before .args in (omega arith, none-stored (g .answers .now) (g .answers .now) (c .answer-numbers .result) (g .at))
 
-slice-write-answers-6 : tie.Need-slice-write-answers-6
-slice-write-answers-6 c = simp length-set (omega arith)
+mul-answers : tie.Need-mul-answers Inv-loop μ-loop
+mul-answers c = search needs
 
-slice-write-answers-7 : tie.Need-slice-write-answers-7
-slice-write-answers-7 c = simp length-set (omega arith)
+array-read-answers : tie.Need-array-read-answers Inv-loop μ-loop
+array-read-answers c = search needs
 
-slice-write-answers-8 : tie.Need-slice-write-answers-8
-slice-write-answers-8 c = simp length-set (omega arith)
+add-answers : tie.Need-add-answers Inv-loop μ-loop
+add-answers c = search needs
 
-slice-write-answers-9 : tie.Need-slice-write-answers-9
-slice-write-answers-9 c = simp length-set (omega arith)
+mul-answers-2 : tie.Need-mul-answers-2 Inv-loop μ-loop
+mul-answers-2 c = search needs
 
-same-length : tie.Need-same-length
-same-length c = simp length-set
+slice-write-answers : tie.Need-slice-write-answers Inv-loop μ-loop
+slice-write-answers c = search needs
 
-returns : tie.Need-returns
+add-i : tie.Need-add-i Inv-loop μ-loop
+add-i c = search needs
+
+loop-less : tie.Need-loop-less Inv-loop μ-loop
+loop-less c = search needs
+
+loop-again : tie.Need-loop-again Inv-loop μ-loop
+loop-again c =
+    let g = c .before .before .before .before .args in
+    let l = c .before .loop in
+    let n = c .before .before .answer-numbers in
+    (omega arith, one-stored (g .answers .now) (l .answers) (n .result) (g .at) (l .i) (omega (arith, ap length (n .ensures))) (l .inv .1))
+
+same-length : tie.Need-same-length Inv-loop μ-loop
+same-length c = c .before .loop .inv .1 .kept
+
+returns : tie.Need-returns Inv-loop μ-loop
 returns c =
-    let g = c .before .before .before .before .before .before .before .before .args in
-    told (g .answers .now) (g .at) (g .answer) _ (c .before .before .before .before .before .before .number-of .ensures)
+    let g = c .before .before .before .before .args in
+    let l = c .before .loop in
+    let n = c .before .before .answer-numbers in
+    all-stored (g .answers .now) (l .answers) (n .result) (g .at) (l .i) (answerNumbers (g .answer)) (omega (arith, ap length (n .ensures))) (n .ensures) (l .inv .1)
 
 pub put-spec : {M : Type 1} → statement M
 put-spec =
     tie.close
-    (tie.spec (λ c κs. search needs) (search needs) (search needs) (search needs) (search needs) (search needs) (search needs) slice-write-answers-2 (search needs) (search needs) slice-write-answers-3
-    (search needs) (search needs) (search needs) slice-write-answers-4 (search needs) (search needs) slice-write-answers-5 (search needs) (search needs) (search needs) slice-write-answers-6
-    (search needs) (search needs) (search needs) slice-write-answers-7 (search needs) (search needs) (search needs) slice-write-answers-8 (search needs) (search needs) (search needs)
-    slice-write-answers-9 same-length returns)
+    (tie.spec Inv-loop μ-loop answer-numbers-requires loop-holds mul-answers array-read-answers add-answers mul-answers-2
+    slice-write-answers add-i loop-less loop-again same-length returns)

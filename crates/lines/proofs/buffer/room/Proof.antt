@@ -15,9 +15,7 @@ returns c =
 returns-2 : tie.Need-returns-2
 returns-2 c =
     let start = c .before .before .before in
-    (rw (lt-ltb (length (start .args .out .now) - 256) (start .args .at) (omega arith)), search needs)
+    (rw (lt-ltb (length (start .args .out .now) - 256) (start .args .at) (omega arith)) (c .flush .ensures), search needs)
 
 pub room-spec : {M : Type 1} → statement M
-room-spec =
-    tie.close
-    (tie.spec (search needs) returns (λ c κs. search needs) returns-2)
+room-spec = tie.close (tie.spec (search needs) returns (λ c κs. tt) returns-2)

@@ -1,4 +1,3 @@
--- `say::error` meets its contract. Assumes nothing.
 use borrow.Author.Needs.{needs}
 use Rattle.lines.proofs.PieceLaws.{piece}
 use Rattle.lines.proofs.say.error.Statement.{statement}
@@ -8,6 +7,4 @@ returns : tie.Need-returns
 returns c = piece (c .before .before .before .before .room .ensures .0) (c .before .before .put-error .ensures .0)
 
 pub error-spec : {M : Type 1} → statement M
-error-spec =
-    tie.close
-    (tie.spec (λ c κs. search needs) (λ c κs. search needs) (search needs) returns)
+error-spec = tie.close (tie.spec (λ c κs. search needs) (λ c κs. search needs) (search needs) returns)

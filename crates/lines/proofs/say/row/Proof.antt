@@ -1,30 +1,29 @@
--- `say::row` meets its contract. Assumes nothing.
-use borrow.Author.Needs.{needs}
 use native.Mathlib.Omega.{arith}
-use Rattle.lines.proofs.PieceLaws.{piece, saying, then}
-use Rattle.lines.proofs.ReplyLaws.{no-row, a-row}
-use Rattle.lines.specs.Replies.{rowsOf}
+use borrow.Author.Needs.{needs}
 use Rattle.rules.specs.Contract.{rowsNow}
 use Rattle.rules.specs.Lent.{Rows}
+use Rattle.lines.proofs.PieceLaws.{saying, then}
+use Rattle.lines.proofs.ReplyLaws.{no-row, a-row}
 use Rattle.lines.proofs.say.row.Statement.{statement}
 use Rattle.lines.proofs.say.row.Tie as tie
 
-abbrev lentRows : tie.Start → Rows
-lentRows e = let a = e .args in rowsOf (a .lengths) (rowsNow (a .parents) (a .ranks) (a .owners) (a .amounts))
+abbrev rows : tie.Start → Rows
+rows e = let a = e .args in rowsNow (a .parents) (a .crowns) (a .amounts)
 
 returns : tie.Need-returns
 returns c =
-    let start = c .before .before .before .before .before .before .before .before .before .before .before .before .before .before in
-    saying (no-row (start .args .lengths) (lentRows start) (start .args .key) _ (c .before .before .before .before .before .before .longest-rows .ensures) (omega arith)) (piece (c .before .before .before .before .before .before .before .room .ensures .0) (c .before .before .put-bytes .ensures))
+    let e = c .before .before .before .before .before .before .before .before .before .before .before in
+    saying (no-row (rows e) (e .args .all .count) (e .args .key) (omega arith)) (c .before .before .word .ensures)
 
 returns-2 : tie.Need-returns-2
 returns-2 c =
-    let start = c .before .before .before .before .before .before .before .before .before .before .before .before .before .before .before .before .before .before .before .before .before .before in
-    saying (a-row (start .args .lengths) (lentRows start) (start .args .key) _ (c .before .before .before .before .before .before .before .before .before .before .before .before .before .before .longest-rows .ensures) (omega arith))
-    (then (piece (c .before .before .before .before .before .before .before .before .before .before .before .before .before .before .before .room .ensures .0) (c .before .before .before .before .before .before .before .before .before .before .put-bytes2 .ensures)) (then (c .before .before .before .before .before .before .row-cells .ensures) (c .before .before .feed .ensures)))
+    let h = c .before .before .before .before .before .before .before in
+    let k = h .before .before .before .before in
+    let e = k .before .before .before .before .before .before .before .before .before in
+    saying (a-row (rows e) (e .args .all .count) (e .args .key) (omega arith))
+    (then (k .word2 .ensures) (then (h .row-cells .ensures) (c .before .before .word3 .ensures)))
 
 pub row-spec : {M : Type 1} → statement M
 row-spec =
     tie.close
-    (tie.spec (λ c κs. search needs) (λ c κs. search needs) (search needs) (λ c κs. search needs) (search needs) returns
-    (search needs) (λ c κs. search needs) (λ c κs. search needs) (λ c κs. search needs) (search needs) returns-2)
+    (tie.spec (search needs) (λ c κs. search needs) (search needs) returns (search needs) (λ c κs. search needs) (λ c κs. search needs) (search needs) (λ c κs. search needs) (search needs) returns-2)

@@ -1,26 +1,14 @@
--- `show::cell64` meets its contract. Assumes nothing.
-use borrow.Author.Needs.{needs}
 use native.Mathlib.Omega.{arith}
-use Rattle.lines.proofs.ReplyLaws.{past-lent, past-part, in-lent}
+use borrow.Author.Needs.{needs}
+use Rattle.lines.proofs.ReplyLaws.{missing, there}
 use Rattle.lines.proofs.show.cell64.Statement.{statement}
 use Rattle.lines.proofs.show.cell64.Tie as tie
 
 returns : tie.Need-returns
-returns c =
-    let start = c .before in
-    past-lent (start .args .lent) (start .args .part .now) (start .args .i) (omega arith)
+returns c = let a = c .before .args in missing (a .part .now) (a .at) (omega arith)
 
 returns-2 : tie.Need-returns-2
-returns-2 c =
-    let start = c .before .before in
-    past-part (start .args .lent) (start .args .part .now) (start .args .i) (omega arith)
-
-returns-3 : tie.Need-returns-3
-returns-3 c =
-    let start = c .before .before .before in
-    in-lent (start .args .lent) (start .args .part .now) (start .args .i) (omega arith) (omega arith)
+returns-2 c = let a = c .before .before .args in there (a .part .now) (a .at) (omega arith)
 
 pub cell64-spec : {M : Type 1} → statement M
-cell64-spec =
-    tie.close
-    (tie.spec returns returns-2 (search needs) (search needs) returns-3)
+cell64-spec = tie.close (tie.spec returns (search needs) (search needs) returns-2)

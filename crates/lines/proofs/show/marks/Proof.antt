@@ -1,14 +1,12 @@
--- `show::marks` meets its contract. The invariant: so far the first `i` marks are printed. Assumes nothing.
-use Prim.Native.Nat.{_-_, _≤_}
+-- The invariant: so far the first `i` marks are printed. Assumes nothing.
+use mathlib.Core.Path.{_≡_}
+use Prim.Native.Nat.{_-_, _≤_, min}
+use native.Mathlib.Omega.{arith}
 use borrow.Author.Needs.{needs}
 use lib.ListN.{length}
-use mathlib.Core.Path.{_≡_}
-use native.Mathlib.Omega.{arith}
-use Rattle.lines.proofs.PieceLaws.{none, one-more, all}
-use Rattle.lines.proofs.ReplyLaws.{within-all, within-there}
 use Rattle.lines.specs.Pieces.{Said}
 use Rattle.lines.specs.Replies.{each, markPieces}
-use Rattle.memory.specs.Cut.{within}
+use Rattle.lines.proofs.PieceLaws.{none, one-more, all}
 use Rattle.lines.proofs.show.marks.Statement.{statement}
 use Rattle.lines.proofs.show.marks.Tie as tie
 
@@ -24,27 +22,21 @@ loop-holds c = (search needs, search needs, search needs, none (markPieces (c .b
 
 returns : tie.Need-returns Inv-loop μ-loop
 returns c =
-    let start = c .before .before .before .before in
     let loop = c .before .before .loop in
-    all (loop .i) (within (start .args .n) 32) (markPieces (start .args .state)) (within-all (loop .i) (start .args .n) 32 (omega arith) (omega arith)) (loop .inv .3)
+    let a = c .before .before .before .before .args in
+    all (loop .i) (min (a .n) 32) (markPieces (a .state)) (omega arith) (loop .inv .3)
 
 loop-again : tie.Need-loop-again Inv-loop μ-loop
 loop-again c =
-    let loop = c .before .before .before .before .before .before .loop in (
-      search needs,
-      search needs,
-      search needs,
-      one-more (loop .i) (markPieces (c .before .before .before .before .before .before .before .before .args .state)) (loop .inv .3) (c .before .before .one-mark .ensures),
-    )
+    let loop = c .before .before .before .before .before .before .loop in
+    let f = markPieces (c .before .before .before .before .before .before .before .before .args .state) in
+    (search needs, search needs, search needs, one-more (loop .i) f (loop .inv .3) (c .before .before .one-mark .ensures))
 
 returns-2 : tie.Need-returns-2 Inv-loop μ-loop
 returns-2 c =
-    let start = c .before .before .before in
     let loop = c .before .loop in
-    all (loop .i) (within (start .args .n) 32) (markPieces (start .args .state)) (within-there (loop .i) (start .args .n) 32 (omega arith) (omega arith)) (loop .inv .3)
+    let a = c .before .before .before .args in
+    all (loop .i) (min (a .n) 32) (markPieces (a .state)) (omega arith) (loop .inv .3)
 
 pub marks-spec : {M : Type 1} → statement M
-marks-spec =
-    tie.close
-    (tie.spec Inv-loop μ-loop loop-holds (search needs) returns (search needs) (λ c κs. search needs) (search needs)
-    (search needs) loop-again (search needs) returns-2)
+marks-spec = tie.close (tie.spec Inv-loop μ-loop loop-holds (search needs) returns (search needs) (λ c κs. search needs) (search needs) (search needs) loop-again (search needs) returns-2)

@@ -1,4 +1,3 @@
--- `show::one_mark` meets its contract. Assumes nothing.
 use borrow.Author.Needs.{needs}
 use Rattle.lines.proofs.PieceLaws.{piece}
 use Rattle.lines.proofs.show.one_mark.Statement.{statement}
@@ -8,6 +7,4 @@ returns : tie.Need-returns
 returns c = piece (c .before .before .before .before .room .ensures .0) (c .before .before .put-mark .ensures .0)
 
 pub one-mark-spec : {M : Type 1} → statement M
-one-mark-spec =
-    tie.close
-    (tie.spec (search needs) (search needs) (λ c κs. search needs) (λ c κs. search needs) (search needs) returns)
+one-mark-spec = tie.close (tie.spec (search needs) (search needs) (λ c κs. search needs) (λ c κs. search needs) (search needs) returns)

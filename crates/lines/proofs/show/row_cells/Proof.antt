@@ -1,4 +1,3 @@
--- `show::row_cells` meets its contract. Assumes nothing.
 use borrow.Author.Needs.{needs}
 use Rattle.lines.proofs.PieceLaws.{piece, saying}
 use Rattle.lines.proofs.ReplyLaws.{row-said}
@@ -6,10 +5,10 @@ use Rattle.lines.proofs.show.row_cells.Statement.{statement}
 use Rattle.lines.proofs.show.row_cells.Tie as tie
 
 returns : tie.Need-returns
-returns c = saying (row-said (c .before .before .before .before .before .before .before .before .before .cell32 .ensures) (c .before .before .before .before .before .before .before .before .cell322 .ensures) (c .before .before .before .before .before .before .before .cell323 .ensures) (c .before .before .before .before .before .before .cell64 .ensures)) (piece (c .before .before .before .before .room .ensures .0) (c .before .before .put-row .ensures .0))
+returns c =
+    let k = c .before .before .before .before .before .before in
+    saying (row-said (k .before .before .before .cell32 .ensures) (k .before .before .cell322 .ensures) (k .before .cell323 .ensures) (k .cell64 .ensures))
+    (piece (c .before .before .before .before .room .ensures .0) (c .before .before .put-row .ensures .0))
 
 pub row-cells-spec : {M : Type 1} → statement M
-row-cells-spec =
-    tie.close
-    (tie.spec (λ c κs. search needs) (λ c κs. search needs) (λ c κs. search needs) (λ c κs. search needs)
-    (λ c κs. search needs) (λ c κs. search needs) (search needs) returns)
+row-cells-spec = tie.close (tie.spec (search needs) (λ c κs. tt) (λ c κs. tt) (search needs) (λ c κs. tt) (λ c κs. tt) (λ c κs. search needs) (λ c κs. search needs) (search needs) returns)

@@ -1,47 +1,42 @@
--- `show::rows` meets its contract. The invariant: so far the first `i` rows are printed. Assumes nothing.
+-- The invariant: so far the first `i` rows are printed. Assumes nothing.
+use mathlib.Core.Path.{_≡_}
 use Prim.Native.Nat.{ℕ, _-_, _≤_}
+use native.Mathlib.Omega.{arith}
 use borrow.Author.Needs.{needs}
 use lib.ListN.{length}
-use mathlib.Core.Path.{_≡_}
-use native.Mathlib.Omega.{arith}
-use Rattle.lines.proofs.PieceLaws.{none, one-more, all, then}
-use Rattle.lines.specs.Pieces.{Said}
-use Rattle.lines.specs.Replies.{Pieces, each, rowsOf, rowPieces}
 use Rattle.rules.specs.Contract.{rowsNow}
+use Rattle.lines.specs.Pieces.{Said}
+use Rattle.lines.specs.Replies.{Pieces, each, rowPieces}
+use Rattle.lines.proofs.PieceLaws.{none, one-more, all, then}
 use Rattle.lines.proofs.show.rows.Statement.{statement}
 use Rattle.lines.proofs.show.rows.Tie as tie
 
 abbrev Inv-loop : tie.InvT-loop
-Inv-loop out₀ at lengths parents ranks owners amounts n end₀ i₀ out end i =
+Inv-loop out₀ at parents crowns amounts n end₀ i₀ bar out end i =
     (length out ≡ length out₀)
     × (i ≤ n)
-    × Said out₀ out at (each i (rowPieces (rowsOf lengths (record { parents = parents; ranks = ranks; owners = owners; amounts = amounts })))) end
+    × Said out₀ out at (each i (rowPieces (record { parents = parents; crowns = crowns; amounts = amounts }))) end
 
 abbrev μ-loop : tie.MeasureT-loop
-μ-loop out₀ at lengths parents ranks owners amounts n end₀ i₀ out end i = n - i
+μ-loop out₀ at parents crowns amounts n end₀ i₀ bar out end i = n - i
 
 abbrev shown : tie.Start Inv-loop μ-loop → ℕ → Pieces
-shown e = let a = e .args in rowPieces (rowsOf (a .lengths) (rowsNow (a .parents) (a .ranks) (a .owners) (a .amounts)))
+shown e = let a = e .args in rowPieces (rowsNow (a .parents) (a .crowns) (a .amounts))
 
 loop-holds : tie.Need-loop-holds Inv-loop μ-loop
-loop-holds c = (search needs, search needs, none (shown (c .before .before .before .before .before)))
+loop-holds c = (search needs, search needs, none (shown (c .before .before .before .before)))
 
 loop-again : tie.Need-loop-again Inv-loop μ-loop
 loop-again c =
-    let loop = c .before .before .before .before .before .before .before .before .before .loop in (
-      search needs,
-      search needs,
-      one-more (loop .i) (shown (c .before .before .before .before .before .before .before .before .before .before .before .before .before .before .before)) (loop .inv .2) (then (c .before .before .before .before .before .before .bar .ensures) (c .before .before .row-cells .ensures)),
-    )
+    let k = c .before .before .before .before .before .before in
+    let h = k .before .before .before .before in
+    let loop = h .loop in
+    (search needs, search needs, one-more (loop .i) (shown (h .before .before .before .before .before)) (loop .inv .2) (then (k .word .ensures) (c .before .before .row-cells .ensures)))
 
 returns : tie.Need-returns Inv-loop μ-loop
 returns c =
-    let start = c .before .before .before .before .before .before .before in
     let loop = c .before .loop in
-    all (loop .i) (start .args .n) (shown start) (omega arith) (loop .inv .2)
+    all (loop .i) (c .before .before .before .before .before .before .args .n) (shown (c .before .before .before .before .before .before)) (omega arith) (loop .inv .2)
 
 pub rows-spec : {M : Type 1} → statement M
-rows-spec =
-    tie.close
-    (tie.spec Inv-loop μ-loop loop-holds (λ c κs. search needs) (λ c κs. search needs) (search needs) (search needs)
-    loop-again (search needs) returns)
+rows-spec = tie.close (tie.spec Inv-loop μ-loop loop-holds (search needs) (λ c κs. search needs) (λ c κs. search needs) (search needs) (search needs) loop-again (search needs) returns)

@@ -1,56 +1,60 @@
 -- `undo::undoable` meets its contract: the entries not yet read decide, from the count reached. Assumes nothing.
 use mathlib.Core.Path.{_≡_, refl, ap, sym, _∙_}
-use Prim.Native.Nat.{ℕ, _-_, _≤_}
+use Prim.Native.Nat.{ℕ, _+_, _-_, _≤_}
 use native.Mathlib.Omega.{arith}
+use denote.Ref.{now}
 use borrow.Author.Tests.{not-true, not-false}
 use borrow.Author.Needs.{needs}
-use Rattle.rules.specs.Lent.{Log}
 use Rattle.rules.specs.Tokens.{newestFirst, undoable}
-use Rattle.rules.specs.Contract.{logNow}
-use Rattle.rollback.proofs.UndoLaws.{logOf, refused-next, passed-next}
+use Rattle.rollback.proofs.UndoLaws.{refused-next, passed-next}
 use Rattle.rollback.proofs.undo.undoable.Statement.{statement}
 use Rattle.rollback.proofs.undo.undoable.Tie as tie
 
 abbrev Inv-loop : tie.InvT-loop
-Inv-loop logkinds logkeys logparents logranks logowners logamounts base used keys count unread₀ reached₀ unread reached =
-    let log = logOf logkinds logkeys logparents logranks logowners logamounts in
+Inv-loop log base used keys count unread₀ reached₀ unread reached =
     (unread ≤ used - base) × (undoable keys count (newestFirst log base (used - base)) ≡ undoable keys reached (newestFirst log base unread))
 
 abbrev μ-loop : tie.MeasureT-loop
-μ-loop logkinds logkeys logparents logranks logowners logamounts base used keys count unread₀ reached₀ unread reached = unread
+μ-loop log base used keys count unread₀ reached₀ unread reached = unread
 
-abbrev log : tie.Start Inv-loop μ-loop → Log
-log e = let a = e .args in logNow (a .logkinds) (a .logkeys) (a .logparents) (a .logranks) (a .logowners) (a .logamounts)
+abbrev start : tie.In-loop Inv-loop μ-loop → tie.Start Inv-loop μ-loop
+start k = k .before .before .before
 
 loop-holds : tie.Need-loop-holds Inv-loop μ-loop
 loop-holds c = (omega arith, refl)
 
-add-i : tie.Need-add-i Inv-loop μ-loop
-add-i c = omega (arith, c .before .before .before .before .before .before .before .before .pre)
-
 entry-at-requires : tie.Need-entry-at-requires Inv-loop μ-loop
-entry-at-requires c κs = let p = c .before .before .before .before .before .before .before .before .pre in omega (arith, p .logged)
+entry-at-requires c κs = let e = start c in e .pre .1 (e .args .base + (c .before .loop .unread - 1)) (omega arith)
 
 returns : tie.Need-returns Inv-loop μ-loop
 returns c =
-    let e = c .before .before .before .before .before .before .before .before .before .before .before in
-    let n = c .before .before .before .before .loop .unread in
-    refused-next (log e) (e .args .base) n (omega arith) _ (c .before .before .entry-at .ensures) (e .args .keys) _ (sym (c .before .allowed .ensures) ∙ not-true _ (c .if1 .taken)) ∙ sym (c .before .before .before .before .loop .inv .1)
+    let k = c .before .before .before in
+    let e = start k in
+    refused-next (now (e .args .log)) (e .args .base) (k .before .loop .unread) (omega arith) (c .before .before .entry-at .result)
+    (c .before .before .entry-at .ensures) (e .args .keys) (k .before .loop .reached) (sym (c .before .allowed .ensures) ∙ not-true _ (c .if1 .taken))
+    ∙ sym (k .before .loop .inv .1)
 
 loop-again : tie.Need-loop-again Inv-loop μ-loop
 loop-again c =
-    let e = c .before .before .before .before .before .before .before .before .before .before .before .before in
-    let n = c .before .before .before .before .before .loop .unread in
-    (omega arith, c .before .before .before .before .before .loop .inv .1 ∙ passed-next (log e) (e .args .base) n (omega arith) _ (c .before .before .before .entry-at .ensures) (e .args .keys) _ _ (sym (c .before .before .allowed .ensures) ∙ not-false _ (c .before .if1 .left)) (c .count-before .ensures))
+    let d = c .before .before in
+    let k = d .before .before in
+    let e = start k in (
+      omega arith,
+      k .before .loop .inv .1
+          ∙ passed-next (now (e .args .log)) (e .args .base) (k .before .loop .unread) (omega arith) (d .before .entry-at .result) (d .before .entry-at .ensures)
+          (e .args .keys) (k .before .loop .reached) (c .count-before .result) (sym (d .allowed .ensures) ∙ not-false _ (c .before .if1 .left))
+          (c .count-before .ensures),
+    )
 
 returns-2 : tie.Need-returns-2 Inv-loop μ-loop
 unfolding undoable newestFirst
 returns-2 c =
+    let a = c .before .before .before .args in
     let none : c .before .loop .unread ≡ 0 = omega arith in
-    sym (c .before .loop .inv .1 ∙ ap (λ (n : ℕ). undoable (c .before .before .before .before .before .before .before .before .args .keys) (c .before .loop .reached) (newestFirst (log (c .before .before .before .before .before .before .before .before)) (c .before .before .before .before .before .before .before .before .args .base) n)) none)
+    sym (c .before .loop .inv .1 ∙ ap (λ (n : ℕ). undoable (a .keys) (c .before .loop .reached) (newestFirst (now (a .log)) (a .base) n)) none)
 
 pub undoable-spec : {M : Type 1} → statement M
 undoable-spec =
     tie.close
-    (tie.spec Inv-loop μ-loop (search needs) loop-holds (search needs) add-i entry-at-requires (λ c κs. search needs) returns
+    (tie.spec Inv-loop μ-loop (search needs) loop-holds (search needs) (search needs) entry-at-requires (λ c κs. search needs) returns
     (λ c κs. search needs) (search needs) loop-again returns-2)

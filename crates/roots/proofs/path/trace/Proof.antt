@@ -1,10 +1,8 @@
-use mathlib.Core.Path.{_≡_, refl, ap, sym, _∙_}
-use mathlib.Core.List.{List, [], _∷_, _++_}
-use Prim.Native.Nat.{ℕ, zero, suc, _+_, _-_, _≤_, _<_}
+use mathlib.Core.Path.{_≡_}
+use Prim.Native.Nat.{_-_, _≤_}
 use native.Mathlib.Omega.{arith}
 use borrow.Author.Needs.{needs}
-use lib.ListN.{length, getD, take, set, length-set}
-use lib.Seq.{take-suc-set, getD-set-same, take-set-le}
+use lib.ListN.{length, take, set, length-set}
 use Rattle.rules.specs.Walk.{path}
 use Rattle.roots.proofs.PathLaws.{along, trace-root, trace-out, trace-spent, trace-more}
 use Rattle.roots.proofs.path.trace.Statement.{statement}
@@ -20,14 +18,20 @@ abbrev μ-loop : tie.MeasureT-loop
 returns : tie.Need-returns Inv-loop μ-loop
 returns c =
     let k = c .before .before .before in
-    let a = k .before .args in
-    (trace-root (a .parents .now) (k .loop .nodes) (a .count) (a .key) (k .loop .at) (k .loop .steps) (k .loop .inv .0) (k .loop .inv .1) (k .loop .inv .2) (omega arith) (c .if1 .taken), record { steps = omega arith; size = simp length-set (omega arith) })
+    let a = k .before .args in (
+      trace-root (a .parents .now) (k .loop .nodes) (a .count) (a .key) (k .loop .at) (k .loop .steps) (k .loop .inv .0) (k .loop .inv .1)
+          (k .loop .inv .2) (omega arith) (c .if1 .taken),
+      record { steps = omega arith; size = simp length-set (omega arith) },
+    )
 
 returns-2 : tie.Need-returns-2 Inv-loop μ-loop
 returns-2 c =
     let k = c .before .before .before .before in
-    let a = k .before .args in
-    (trace-spent (a .parents .now) (k .loop .nodes) (a .count) (a .key) (k .loop .at) (k .loop .steps) (k .loop .inv .0) (k .loop .inv .1) (k .loop .inv .2) (c .if2 .taken) (omega arith) (c .before .if1 .left), record { steps = omega arith; size = simp length-set (omega arith) })
+    let a = k .before .args in (
+      trace-spent (a .parents .now) (k .loop .nodes) (a .count) (a .key) (k .loop .at) (k .loop .steps) (k .loop .inv .0) (k .loop .inv .1)
+          (k .loop .inv .2) (c .if2 .taken) (omega arith) (c .before .if1 .left),
+      record { steps = omega arith; size = simp length-set (omega arith) },
+    )
 
 loop-again : tie.Need-loop-again Inv-loop μ-loop
 loop-again c =
@@ -35,7 +39,8 @@ loop-again c =
     let a = k .before .args in (
       search needs,
       simp length-set (omega arith),
-      trace-more (a .parents .now) (k .loop .nodes) (a .count) (a .key) (k .loop .at) (k .loop .steps) (k .loop .inv .0) (k .loop .inv .1) (k .loop .inv .2) (c .if2 .left) (omega arith) (c .before .if1 .left),
+      trace-more (a .parents .now) (k .loop .nodes) (a .count) (a .key) (k .loop .at) (k .loop .steps) (k .loop .inv .0) (k .loop .inv .1)
+          (k .loop .inv .2) (c .if2 .left) (omega arith) (c .before .if1 .left),
     )
 
 returns-3 : tie.Need-returns-3 Inv-loop μ-loop

@@ -1,14 +1,13 @@
-use mathlib.Core.Path.{_≡_, refl, ap, sym, _∙_}
+use mathlib.Core.Path.{_≡_, ap, _∙_}
 use mathlib.Core.Logic.{⊎-elim}
-use mathlib.Core.List.{List, [], _∷_, _++_}
-use Prim.Native.Nat.{ℕ, zero, suc, _+_, _-_, _≤_, _<_}
+use Prim.Native.Nat.{ℕ, _+_, _-_, _≤_, _<_}
 use native.Mathlib.Omega.{arith}
 use borrow.Author.Needs.{needs}
 use borrow.Author.Count.{below-more}
 use lib.ListN.{length, getD, take, set, length-set}
 use Rattle.rules.specs.Walk.{path}
 use Rattle.roots.specs.Trail.{compress}
-use Rattle.roots.proofs.PathLaws.{along, trace-root, trace-out, trace-spent, trace-more}
+use Rattle.roots.proofs.PathLaws.{along}
 use Rattle.roots.proofs.AfterLaws.{after-out, after-root, after-spent, after-more, on-spent, on-more}
 use Rattle.roots.proofs.path.trace_after.Statement.{statement}
 use Rattle.roots.proofs.path.trace_after.Tie as tie
@@ -38,31 +37,44 @@ returns c =
     let w = c .before .before .before .before .before in
     let e = w .before .before in
     let a = e .args in
-    let law = after-root (a .parents .now) (a .count) (a .a) (a .first) (e .pre .0) (e .pre .1 .0) (e .pre .1 .1 .0) (e .pre .1 .1 .1) (a .key) (w .walk .at) (w .walk .steps) (w .walk .nodes) (w .walk .inv .0) (w .walk .inv .1) (w .walk .inv .2) in
-    (law (c .before .before .before .before .walk-test .taken) (λ i lt. c .before .before .before .loop .inv .1 i (omega arith)) (c .if2 .taken), record { steps = omega arith; size = simp length-set (omega arith) })
+    let law = after-root (a .parents .now) (a .count) (a .a) (a .first) (e .pre .0) (e .pre .1 .0) (e .pre .1 .1 .0) (e .pre .1 .1 .1) (a .key)
+    (w .walk .at) (w .walk .steps) (w .walk .nodes) (w .walk .inv .0) (w .walk .inv .1) (w .walk .inv .2) in (
+      law (c .before .before .before .before .walk-test .taken) (λ i lt. c .before .before .before .loop .inv .1 i (omega arith)) (c .if2 .taken),
+      record { steps = omega arith; size = simp length-set (omega arith) },
+    )
 
 returns-2 : tie.Need-returns-2 Inv-loop μ-loop Inv-walk μ-walk
 returns-2 c =
     let w = c .before .before .before .before .before .before in
     let e = w .before .before in
     let a = e .args in
-    let law = after-spent (a .parents .now) (a .count) (a .a) (a .first) (e .pre .0) (e .pre .1 .0) (e .pre .1 .1 .0) (e .pre .1 .1 .1) (a .key) (w .walk .at) (w .walk .steps) (w .walk .nodes) (w .walk .inv .0) (w .walk .inv .1) (w .walk .inv .2) in
-    (law (c .before .before .before .before .before .walk-test .taken) (λ i lt. c .before .before .before .before .loop .inv .1 i (omega arith)) (c .if3 .taken) (c .before .if2 .left), record { steps = omega arith; size = simp length-set (omega arith) })
+    let law = after-spent (a .parents .now) (a .count) (a .a) (a .first) (e .pre .0) (e .pre .1 .0) (e .pre .1 .1 .0) (e .pre .1 .1 .1) (a .key)
+    (w .walk .at) (w .walk .steps) (w .walk .nodes) (w .walk .inv .0) (w .walk .inv .1) (w .walk .inv .2) in (
+      law (c .before .before .before .before .before .walk-test .taken) (λ i lt. c .before .before .before .before .loop .inv .1 i (omega arith))
+          (c .if3 .taken) (c .before .if2 .left),
+      record { steps = omega arith; size = simp length-set (omega arith) },
+    )
 
 walk-again : tie.Need-walk-again Inv-loop μ-loop Inv-walk μ-walk
 walk-again c =
     let w = c .before .before .before .before .before .before in
     let e = w .before .before in
     let a = e .args in
-    let law = after-more (a .parents .now) (a .count) (a .a) (a .first) (e .pre .0) (e .pre .1 .0) (e .pre .1 .1 .0) (e .pre .1 .1 .1) (a .key) (w .walk .at) (w .walk .steps) (w .walk .nodes) (w .walk .inv .0) (w .walk .inv .1) (w .walk .inv .2) in
-    (omega arith, simp length-set (omega arith), law (c .before .before .before .before .before .walk-test .taken) (λ i lt. c .before .before .before .before .loop .inv .1 i (omega arith)) (c .if3 .left) (c .before .if2 .left))
+    let law = after-more (a .parents .now) (a .count) (a .a) (a .first) (e .pre .0) (e .pre .1 .0) (e .pre .1 .1 .0) (e .pre .1 .1 .1) (a .key)
+    (w .walk .at) (w .walk .steps) (w .walk .nodes) (w .walk .inv .0) (w .walk .inv .1) (w .walk .inv .2) in (
+      omega arith,
+      simp length-set (omega arith),
+      law (c .before .before .before .before .before .walk-test .taken)
+          (λ i lt. c .before .before .before .before .loop .inv .1 i (omega arith)) (c .if3 .left) (c .before .if2 .left),
+    )
 
 returns-3 : tie.Need-returns-3 Inv-loop μ-loop Inv-walk μ-walk
 returns-3 c =
     let w = c .before .before in
     let e = w .before .before in
     let a = e .args in
-    let law = after-out (a .parents .now) (a .count) (a .a) (a .first) (e .pre .0) (e .pre .1 .0) (e .pre .1 .1 .0) (e .pre .1 .1 .1) (a .key) (w .walk .at) (w .walk .steps) (w .walk .nodes) (w .walk .inv .0) (w .walk .inv .1) (w .walk .inv .2) in
+    let law = after-out (a .parents .now) (a .count) (a .a) (a .first) (e .pre .0) (e .pre .1 .0) (e .pre .1 .1 .0) (e .pre .1 .1 .1) (a .key)
+    (w .walk .at) (w .walk .steps) (w .walk .nodes) (w .walk .inv .0) (w .walk .inv .1) (w .walk .inv .2) in
     (law (c .if4 .taken), record { steps = omega arith; size = ⊎-elim (λ o. rw (o .1) (omega arith)) (λ o. rw (o .4) (simp length-set (omega arith))) (c .before .walk-test .came) })
 
 returns-4 : tie.Need-returns-4 Inv-loop μ-loop Inv-walk μ-walk
@@ -70,7 +82,8 @@ returns-4 c =
     let w = c .before .before .before in
     let e = w .before .before in
     let a = e .args in
-    let law = on-spent (a .parents .now) (a .count) (a .a) (a .first) (e .pre .0) (e .pre .1 .0) (e .pre .1 .1 .0) (e .pre .1 .1 .1) (a .key) (w .walk .at) (w .walk .steps) (w .walk .nodes) (w .walk .inv .0) (w .walk .inv .1) (w .walk .inv .2) in
+    let law = on-spent (a .parents .now) (a .count) (a .a) (a .first) (e .pre .0) (e .pre .1 .0) (e .pre .1 .1 .0) (e .pre .1 .1 .1) (a .key)
+    (w .walk .at) (w .walk .steps) (w .walk .nodes) (w .walk .inv .0) (w .walk .inv .1) (w .walk .inv .2) in
     ⊎-elim (λ o. absurd (omega (arith, o .0, c .before .if4 .left)))
     (λ o. (law (c .before .if4 .left) (o .1 .j) (o .2 .taken) (o .3 .taken) (c .if5 .taken), record { steps = omega arith; size = rw (o .4) (simp length-set (omega arith)) }))
     (c .before .before .walk-test .came)
@@ -80,9 +93,17 @@ returns-5 c =
     let w = c .before .before .before in
     let e = w .before .before in
     let a = e .args in
-    let law = on-more (a .parents .now) (a .count) (a .a) (a .first) (e .pre .0) (e .pre .1 .0) (e .pre .1 .1 .0) (e .pre .1 .1 .1) (a .key) (w .walk .at) (w .walk .steps) (w .walk .nodes) (w .walk .inv .0) (w .walk .inv .1) (w .walk .inv .2) in
+    let law = on-more (a .parents .now) (a .count) (a .a) (a .first) (e .pre .0) (e .pre .1 .0) (e .pre .1 .1 .0) (e .pre .1 .1 .1) (a .key)
+    (w .walk .at) (w .walk .steps) (w .walk .nodes) (w .walk .inv .0) (w .walk .inv .1) (w .walk .inv .2) in
     ⊎-elim (λ o. absurd (omega (arith, o .0, c .before .if4 .left)))
-    (λ o. (rw (o .4) (law (c .before .if4 .left) (o .1 .j) (o .2 .taken) (o .3 .taken) (c .if5 .left)), record { steps = omega arith; size = length-set (c .before .before .walk-test .nodes) (w .walk .steps + 1) _ ∙ ap length (o .4) ∙ length-set (w .walk .nodes) (w .walk .steps) (w .walk .at) ∙ w .walk .inv .1 }))
+    (λ o. (
+      rw (o .4) (law (c .before .if4 .left) (o .1 .j) (o .2 .taken) (o .3 .taken) (c .if5 .left)),
+      record {
+        steps = omega arith;
+        size = length-set (c .before .before .walk-test .nodes) (w .walk .steps + 1) _
+            ∙ ap length (o .4) ∙ length-set (w .walk .nodes) (w .walk .steps) (w .walk .at) ∙ w .walk .inv .1;
+      },
+    ))
     (c .before .before .walk-test .came)
 
 pub trace-after-spec : {M : Type 1} → statement M

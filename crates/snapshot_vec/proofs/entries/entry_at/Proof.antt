@@ -1,14 +1,34 @@
--- `entries::entry_at` meets its contract, kind by kind. Assumes nothing.
 use borrow.Author.Tests.{eq-eqb, ne-eqb}
 use borrow.Author.Needs.{needs}
 use Rattle.snapshot_vec.proofs.entries.entry_at.Statement.{statement}
 use Rattle.snapshot_vec.proofs.entries.entry_at.Tie as tie
 
+mul-base : tie.Need-mul-base
+mul-base c = search needs
+
+mul-kind : tie.Need-mul-kind
+mul-kind c = search needs
+
+shared-slice-read-kind : tie.Need-shared-slice-read-kind
+shared-slice-read-kind c = search needs
+
+add-key : tie.Need-add-key
+add-key c = search needs
+
+mul-key : tie.Need-mul-key
+mul-key c = search needs
+
+shared-slice-read-key : tie.Need-shared-slice-read-key
+shared-slice-read-key c = search needs
+
 returns : tie.Need-returns
 returns c = rw (eq-eqb _ _ (c .if1 .taken))
 
+old-at-requires : tie.Need-old-at-requires
+old-at-requires c κs = search needs
+
 returns-2 : tie.Need-returns-2
-returns-2 c = rw (ne-eqb _ _ (c .before .before .if1 .left), eq-eqb _ _ (c .before .if2 .taken), c .row-at .ensures)
+returns-2 c = rw (ne-eqb _ _ (c .before .before .if1 .left), eq-eqb _ _ (c .before .if2 .taken), c .old-at .ensures)
 
 returns-3 : tie.Need-returns-3
 returns-3 c = rw (ne-eqb _ _ (c .before .if1 .left), ne-eqb _ _ (c .if2 .left))
@@ -16,4 +36,5 @@ returns-3 c = rw (ne-eqb _ _ (c .before .if1 .left), ne-eqb _ _ (c .if2 .left))
 pub entry-at-spec : {M : Type 1} → statement M
 entry-at-spec =
     tie.close
-    (tie.spec (search needs) (search needs) (search needs) (search needs) returns (λ c κs. search needs) returns-2 returns-3)
+    (tie.spec mul-base mul-kind shared-slice-read-kind add-key mul-key shared-slice-read-key returns old-at-requires returns-2
+    returns-3)

@@ -1,7 +1,15 @@
--- `entries::numbers_of` meets its contract, case by case. Assumes nothing.
 use borrow.Author.Needs.{needs}
 use Rattle.snapshot_vec.proofs.entries.numbers_of.Statement.{statement}
 use Rattle.snapshot_vec.proofs.entries.numbers_of.Tie as tie
+
+enum-known-entry : tie.Need-enum-known-entry
+enum-known-entry c = search needs
+
+enum-known-entry-2 : tie.Need-enum-known-entry-2
+enum-known-entry-2 c = search needs
+
+enum-told : tie.Need-enum-told
+enum-told c = search needs
 
 returns : tie.Need-returns
 returns c = rw (c .before .entry .given .1)
@@ -13,6 +21,4 @@ returns-3 : tie.Need-returns-3
 returns-3 c = rw (c .enum-told .given .1)
 
 pub numbers-of-spec : {M : Type 1} → statement M
-numbers-of-spec =
-    tie.close
-    (tie.spec (search needs) (search needs) (search needs) returns returns-2 returns-3)
+numbers-of-spec = tie.close (tie.spec enum-known-entry enum-known-entry-2 enum-told returns returns-2 returns-3)

@@ -1,18 +1,48 @@
--- `entries::put_entry` meets its contract: its numbers are written one by one. Assumes nothing.
+use mathlib.Core.Path.{_∙_}
+use native.Mathlib.Omega.{arith}
+use lib.ListN.{length-set}
+use denote.Ref.{now}
+use Rattle.snapshot_vec.proofs.UpdateLaws.{stored}
 use borrow.Author.Needs.{needs}
-use Rattle.rules.specs.Contract.{logNow}
-use Rattle.snapshot_vec.proofs.EntryLaws.{stored}
 use Rattle.snapshot_vec.proofs.entries.put_entry.Statement.{statement}
 use Rattle.snapshot_vec.proofs.entries.put_entry.Tie as tie
 
+mul-base : tie.Need-mul-base
+mul-base c = search needs
+
+numbers-of-requires : tie.Need-numbers-of-requires
+numbers-of-requires c κs = search needs
+
+mul-log : tie.Need-mul-log
+mul-log c = search needs
+
+slice-write-log : tie.Need-slice-write-log
+slice-write-log c = search needs
+
+add-log : tie.Need-add-log
+add-log c = search needs
+
+mul-log-2 : tie.Need-mul-log-2
+mul-log-2 c = search needs
+
+slice-write-log-2 : tie.Need-slice-write-log-2
+slice-write-log-2 c = simp length-set (omega arith)
+
+put-old-requires : tie.Need-put-old-requires
+put-old-requires c κs = simp length-set (omega arith)
+
+same-length : tie.Need-same-length
+same-length c = (c .before .before .put-old .kept .0) ∙ simp length-set
+
 returns : tie.Need-returns
 returns c =
-    let a = c .before .before .before .before .before .before .before .before .before .before .before .before .before .before .before .before .before .before .before .before .before .args in
-    stored (logNow (a .logkinds) (a .logkeys) (a .logparents) (a .logranks) (a .logowners) (a .logamounts)) (a .i) (a .entry) _ _
-    (c .before .before .before .before .before .before .before .before .before .before .before .before .before .before .numbers-of .ensures) (c .before .before .before .before .before .before .before .before .put-row .ensures)
+    let k = c .before .before in
+    let n = k .before .before .before in
+    let a = n .before .before .args in
+    stored (now (a .log)) (a .i) (a .entry) (n .numbers-of .result) (k .put-old .last .0) (n .numbers-of .ensures) (k .put-old .ensures)
 
 pub put-entry-spec : {M : Type 1} → statement M
 put-entry-spec =
     tie.close
-    (tie.spec (λ c κs. search needs) (search needs) (search needs) (search needs) (search needs) (λ c κs. search needs) (search needs)
-    (search needs) (search needs) (search needs) (search needs) (search needs) returns)
+    (tie.spec mul-base numbers-of-requires mul-log slice-write-log add-log mul-log-2 slice-write-log-2 put-old-requires
+    same-length returns)

@@ -1,13 +1,36 @@
--- `rows::put_row` meets its contract. Assumes nothing.
 use borrow.Author.Needs.{needs}
 use Rattle.snapshot_vec.proofs.rows.put_row.Statement.{statement}
 use Rattle.snapshot_vec.proofs.rows.put_row.Tie as tie
 
+mul-parents : tie.Need-mul-parents
+mul-parents c = search needs
+
+slice-write-parents : tie.Need-slice-write-parents
+slice-write-parents c = search needs
+
+put-crown-requires : tie.Need-put-crown-requires
+put-crown-requires c κs = c .before .before .before .before .pre .crowns
+
+mul-amounts : tie.Need-mul-amounts
+mul-amounts c = search needs
+
+slice-write-amounts : tie.Need-slice-write-amounts
+slice-write-amounts c = search needs
+
+same-length : tie.Need-same-length
+same-length c = search needs
+
+same-length-2 : tie.Need-same-length-2
+same-length-2 c = c .before .before .put-crown .kept .0
+
+same-length-3 : tie.Need-same-length-3
+same-length-3 c = search needs
+
 returns : tie.Need-returns
-returns c = rw (c .number-of .ensures)
+returns c = rw (c .before .before .put-crown .ensures)
 
 pub put-row-spec : {M : Type 1} → statement M
 put-row-spec =
     tie.close
-    (tie.spec (λ c κs. search needs) (search needs) (search needs) (search needs) (search needs) (search needs) (search needs)
-    (search needs) (search needs) (search needs) (search needs) (search needs) (search needs) returns)
+    (tie.spec mul-parents slice-write-parents put-crown-requires mul-amounts slice-write-amounts same-length same-length-2
+    same-length-3 returns)

@@ -1,21 +1,33 @@
--- `update::log_row` meets its contract. Assumes nothing.
 use Rattle.rules.specs.Write.{Memory, memory}
-use Rattle.rules.specs.Contract.{rowsNow, logNow}
+use Rattle.rules.specs.Contract.{rowsNow, memoryNow}
 use Rattle.snapshot_vec.proofs.UpdateLaws.{logged-row}
-use borrow.Author.Needs.{needs}
 use Rattle.snapshot_vec.proofs.update.log_row.Statement.{statement}
 use Rattle.snapshot_vec.proofs.update.log_row.Tie as tie
 
 abbrev mem : tie.Start → Memory
-mem e = let a = e .args in memory (rowsNow (a .parents) (a .ranks) (a .owners) (a .amounts)) (logNow (a .logkinds) (a .logkeys) (a .logparents) (a .logranks) (a .logowners) (a .logamounts)) (a .opened) (a .used)
+mem e = let a = e .args in memoryNow (a .parents) (a .crowns) (a .amounts) (a .log) (a .opened) (a .used)
+
+-- the memory once the entry is logged
+abbrev after : tie.After-log-entry → Memory
+after k =
+    let a = k .before .before .before .before .before .before .before .args in
+    memory (rowsNow (a .parents) (a .crowns) (a .amounts)) (k .log-entry .last .0) (a .opened) (k .log-entry .result)
+
+row-at-requires : tie.Need-row-at-requires
+row-at-requires c κs = c .before .before .before .before .pre .0
+
+log-entry-requires : tie.Need-log-entry-requires
+log-entry-requires c κs = c .before .before .before .before .before .before .pre .1
+
+same-length : tie.Need-same-length
+same-length c = c .before .before .log-entry .kept .0
 
 returns : tie.Need-returns
 returns c =
-    let e = c .before .before .before .before .before .before .before .before .before .before .before .before .before .before .before .before .before .before .before .before .before .before .before .before .before .before .before .before .before .before in
-    logged-row (mem e) (e .args .i) _ (c .before .before .before .before .before .before .before .before .before .before .before .before .before .before .before .before .before .before .before .row-at .ensures) (c .before .before .before .before .before .before .before .before .before .before .before .before .log-entry .ensures (mem e .rows))
+    let l = c .before .before in
+    let k = l .before .before in
+    let e = k .before .before .before .before .before in
+    logged-row (mem e) (e .args .i) (k .row-at .result) {m′ = after l} (k .row-at .ensures) (l .log-entry .ensures (mem e .rows))
 
 pub log-row-spec : {M : Type 1} → statement M
-log-row-spec =
-    tie.close
-    (tie.spec (λ c κs. search needs) (λ c κs. search needs) (search needs) (search needs) (search needs) (search needs) (search needs)
-    (search needs) returns)
+log-row-spec = tie.close (tie.spec row-at-requires log-entry-requires same-length returns)

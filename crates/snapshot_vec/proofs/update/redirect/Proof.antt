@@ -1,21 +1,39 @@
--- `update::redirect` meets its contract: logged, then written. Assumes nothing.
 use Rattle.rules.specs.Write.{Memory, memory}
-use Rattle.rules.specs.Contract.{rowsNow, logNow}
+use Rattle.rules.specs.Contract.{rowsNow, memoryNow}
 use Rattle.snapshot_vec.proofs.UpdateLaws.{redirected}
 use borrow.Author.Needs.{needs}
 use Rattle.snapshot_vec.proofs.update.redirect.Statement.{statement}
 use Rattle.snapshot_vec.proofs.update.redirect.Tie as tie
 
 abbrev mem : tie.Start → Memory
-mem e = let a = e .args in memory (rowsNow (a .parents) (a .ranks) (a .owners) (a .amounts)) (logNow (a .logkinds) (a .logkeys) (a .logparents) (a .logranks) (a .logowners) (a .logamounts)) (a .opened) (a .used)
+mem e = let a = e .args in memoryNow (a .parents) (a .crowns) (a .amounts) (a .log) (a .opened) (a .used)
+
+-- the memory once the entry is logged
+abbrev after : tie.After-log-row → Memory
+after k =
+    let a = k .before .before .before .before .before .before .before .args in
+    memory (rowsNow (a .parents) (a .crowns) (a .amounts)) (k .log-row .last .1 .1 .1 .0) (a .opened) (k .log-row .result)
+
+log-row-requires : tie.Need-log-row-requires
+log-row-requires c κs = c .before .before .before .before .before .before .pre
+
+mul-parents : tie.Need-mul-parents
+mul-parents c = search needs
+
+slice-write-parents : tie.Need-slice-write-parents
+slice-write-parents c = search needs
+
+same-length : tie.Need-same-length
+same-length c = search needs
+
+same-length-2 : tie.Need-same-length-2
+same-length-2 c = c .before .before .log-row .kept .1 .1 .1 .0
 
 returns : tie.Need-returns
 returns c =
-    let e = c .before .before .before .before .before .before .before .before .before .before .before .before .before .before .before .before .before .before .before .before .before .before .before .before .before .before .before .before .before .before in
-    redirected (mem e) (e .args .key) _ (c .before .before .before .before .before .before .before .before .before .before .before .before .log-row .ensures) (e .args .root)
+    let k = c .before .before in
+    let e = k .before .before .before .before .before .before .before in
+    redirected (mem e) (e .args .key) (after k) (k .log-row .ensures) (e .args .root)
 
 pub redirect-spec : {M : Type 1} → statement M
-redirect-spec =
-    tie.close
-    (tie.spec (λ c κs. search needs) (search needs) (search needs) (search needs) (search needs) (search needs) (search needs)
-    (search needs) (search needs) (search needs) returns)
+redirect-spec = tie.close (tie.spec log-row-requires mul-parents slice-write-parents same-length same-length-2 returns)

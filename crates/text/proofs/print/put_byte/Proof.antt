@@ -1,5 +1,4 @@
 -- `print::put_byte` meets its contract. Assumes nothing.
-use native.Mathlib.Omega.{arith}
 use borrow.Author.Needs.{needs}
 use Rattle.text.proofs.PrintLaws.{one-byte}
 use Rattle.text.proofs.print.put_byte.Statement.{statement}

@@ -12,6 +12,4 @@ returns c =
     (then (then (word .put-bytes .ensures) (number .put-next .ensures .0)) (feed .put-byte .ensures), search needs)
 
 pub put-error-spec : {M : Type 1} → statement M
-put-error-spec =
-    tie.close
-    (tie.spec (search needs) (λ c κs. search needs) (λ c κs. search needs) (λ c κs. search needs) (search needs) returns)
+put-error-spec = tie.close (tie.spec (search needs) (λ c κs. search needs) (λ c κs. search needs) (λ c κs. search needs) (search needs) returns)

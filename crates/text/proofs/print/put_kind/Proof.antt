@@ -1,8 +1,8 @@
 -- `print::put_kind` meets its contract. Assumes nothing.
-use Rattle.text.proofs.PrintLaws.{saying, then}
-use Rattle.text.specs.Printed.{cells}
+use mathlib.Core.List.{append-nil}
 use borrow.Author.Needs.{needs}
-use mathlib.Core.List.{append-nil, append-assoc}
+use Rattle.text.specs.Printed.{cells}
+use Rattle.text.proofs.PrintLaws.{saying, then}
 use Rattle.text.proofs.print.put_kind.Statement.{statement}
 use Rattle.text.proofs.print.put_kind.Tie as tie
 
@@ -12,10 +12,7 @@ returns c =
     let key = c .before .before in
     let kind = key .before .before .before .before in
     let bar = kind .before .before .before .before in
-    let printed = then (bar .put-bar .ensures .0) (then (kind .put-cell .ensures .0) (key .put-cell2 .ensures .0)) in
-    (saying (simp append-nil) printed, search needs)
+    (saying (simp append-nil) (then (bar .put-bar .ensures .0) (then (kind .put-cell .ensures .0) (key .put-cell2 .ensures .0))), search needs)
 
 pub put-kind-spec : {M : Type 1} → statement M
-put-kind-spec =
-    tie.close
-    (tie.spec (λ c κs. search needs) (λ c κs. search needs) (λ c κs. search needs) (search needs) returns)
+put-kind-spec = tie.close (tie.spec (λ c κs. search needs) (λ c κs. search needs) (λ c κs. search needs) (search needs) returns)

@@ -11,6 +11,4 @@ returns c =
     (saying (one-listed _) (then (blank .put-byte .ensures) (number .put-number .ensures .0)), search needs)
 
 pub put-next-spec : {M : Type 1} → statement M
-put-next-spec =
-    tie.close
-    (tie.spec (λ c κs. search needs) (λ c κs. search needs) (search needs) returns)
+put-next-spec = tie.close (tie.spec (λ c κs. search needs) (λ c κs. search needs) (search needs) returns)

@@ -1,8 +1,8 @@
 -- `print::put_row` meets its contract. Assumes nothing.
-use Rattle.text.proofs.PrintLaws.{saying, then}
-use Rattle.text.specs.Printed.{cells}
+use mathlib.Core.List.{append-nil}
 use borrow.Author.Needs.{needs}
-use mathlib.Core.List.{append-nil, append-assoc}
+use Rattle.text.specs.Printed.{cells}
+use Rattle.text.proofs.PrintLaws.{saying, then}
 use Rattle.text.proofs.print.put_row.Statement.{statement}
 use Rattle.text.proofs.print.put_row.Tie as tie
 
@@ -13,12 +13,8 @@ returns c =
     let owner = amount .before .before .before .before in
     let rank = owner .before .before .before .before in
     let parent = rank .before .before .before .before in
-    let printed =
-    then (parent .put-cell .ensures .0)
-    (then (rank .put-cell2 .ensures .0) (then (owner .put-cell3 .ensures .0) (amount .put-cell4 .ensures .0))) in
-    (saying (simp append-nil) printed, search needs)
+    let last = then (owner .put-cell3 .ensures .0) (amount .put-cell4 .ensures .0) in
+    (saying (simp append-nil) (then (parent .put-cell .ensures .0) (then (rank .put-cell2 .ensures .0) last)), search needs)
 
 pub put-row-spec : {M : Type 1} → statement M
-put-row-spec =
-    tie.close
-    (tie.spec (λ c κs. search needs) (λ c κs. search needs) (λ c κs. search needs) (λ c κs. search needs) (search needs) returns)
+put-row-spec = tie.close (tie.spec (λ c κs. search needs) (λ c κs. search needs) (λ c κs. search needs) (λ c κs. search needs) (search needs) returns)

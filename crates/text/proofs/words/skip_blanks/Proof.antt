@@ -32,6 +32,4 @@ returns-2 : tie.Need-returns-2 Inv-loop μ-loop
 returns-2 c = record { onward = omega arith; inside = omega arith; same = c .before .loop .inv .2; none = λ h _. absurd (omega arith) }
 
 pub skip-blanks-spec : {M : Type 1} → statement M
-skip-blanks-spec =
-    tie.close
-    (tie.spec Inv-loop μ-loop loop-holds (search needs) returns (search needs) (search needs) loop-again returns-2)
+skip-blanks-spec = tie.close (tie.spec Inv-loop μ-loop loop-holds (search needs) returns (search needs) (search needs) loop-again returns-2)

@@ -5,7 +5,7 @@ use native.Mathlib.Omega.{arith}
 use borrow.Author.Needs.{needs}
 use lib.ListN.{length, getD, drop}
 use Rattle.text.specs.Line.{BLANK, words, wordsAfter}
-use Rattle.text.proofs.LineLaws.{part, first-letter, past-letter, ends-line, ends-blank}
+use Rattle.text.proofs.LineLaws.{part, first-letter, past-letter, spans}
 use Rattle.text.proofs.words.word_end.Statement.{statement}
 use Rattle.text.proofs.words.word_end.Tie as tie
 
@@ -23,31 +23,17 @@ loop-holds c = (omega arith, omega arith, first-letter (c .args .line .now) (c .
 returns : tie.Need-returns Inv-loop μ-loop
 returns c =
     let head = c .before .before .before in
-    record {
-      some = omega arith;
-      inside = omega arith;
-      first = λ b. head .loop .inv .2 b ∙ ends-blank (head .before .args .line .now) (head .before .args .start) (head .loop .i)
-          (omega arith) (omega arith) (omega arith) (c .if1 .taken);
-    }
+    spans _ _ (head .loop .i) (omega arith) (omega arith) (λ _. c .if1 .taken) (head .loop .inv .2)
 
 loop-again : tie.Need-loop-again Inv-loop μ-loop
 loop-again c =
-    let head = c .before .before .before in (
-      omega arith,
-      omega arith,
-      λ b. head .loop .inv .2 b ∙ past-letter (head .before .args .line .now) (head .before .args .start) (head .loop .i) (omega arith)
-          (omega arith) (c .if1 .left),
-    )
+    let head = c .before .before .before in
+    let args = head .before .args in
+    let more = past-letter (args .line .now) (args .start) (head .loop .i) (omega arith) (omega arith) (c .if1 .left) in
+    (omega arith, omega arith, λ b. head .loop .inv .2 b ∙ more)
 
 returns-2 : tie.Need-returns-2 Inv-loop μ-loop
-returns-2 c =
-    let head = c .before in
-    record {
-      some = omega arith;
-      inside = omega arith;
-      first = λ b. head .loop .inv .2 b ∙ ends-line (head .before .args .line .now) (head .before .args .start) (head .loop .i)
-          (omega arith) (omega arith) (omega arith);
-    }
+returns-2 c = spans _ _ (c .before .loop .i) (omega arith) (omega arith) (λ h. absurd (omega arith)) (c .before .loop .inv .2)
 
 pub word-end-spec : {M : Type 1} → statement M
 word-end-spec =

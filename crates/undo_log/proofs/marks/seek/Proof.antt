@@ -4,7 +4,7 @@ use Prim.Native.Nat.{ℕ, suc, _-_, _≤_, _<_}
 use native.Mathlib.Omega.{arith}
 use borrow.Author.Needs.{needs}
 use Rattle.rules.specs.Tokens.{seek}
-use Rattle.undo_log.proofs.TokenLaws.{seek-hit, seek-miss}
+use Rattle.undo_log.proofs.MarkLaws.{seek-hit, seek-miss}
 use Rattle.undo_log.proofs.marks.seek.Statement.{statement}
 use Rattle.undo_log.proofs.marks.seek.Tie as tie
 

@@ -1,0 +1,25 @@
+-- `core::part` meets its contract, end by end. Assumes nothing.
+use Prim.Native.Nat.{_*_}
+use borrow.Author.Needs.{needs}
+use denote.Ref.{now}
+use Rattle.rules.specs.Numbers.{ENTRY}
+use Rattle.actions.proofs.PartLaws.{part-none, part-past, part-rest}
+use Rattle.actions.proofs.core.part.Statement.{statement}
+use Rattle.actions.proofs.core.part.Tie as tie
+
+returns : tie.Need-returns
+returns c = let a = c .before .before .args in part-none (now (a .log)) (a .from * ENTRY) (a .to * ENTRY) (c .before .if1 .taken)
+
+returns-3 : tie.Need-returns-3
+returns-3 c =
+    let a = c .before .before .before .before .args in
+    part-rest (now (a .log)) (a .from * ENTRY) (a .to * ENTRY) (c .before .before .if2 .left) (c .before .if3 .taken)
+
+returns-4 : tie.Need-returns-4
+returns-4 c = let a = c .before .before .before .before .args in part-past (now (a .log)) (a .from * ENTRY) (a .to * ENTRY) (c .before .if3 .left)
+
+pub part-spec : {M : Type 1} → statement M
+part-spec =
+    tie.close
+    (tie.spec (search needs) (search needs) (search needs) (search needs) (search needs) returns (search needs) (search needs) (search needs)
+    (search needs) (search needs) (search needs) (search needs) (search needs) returns-3 (search needs) (search needs) (search needs) returns-4)

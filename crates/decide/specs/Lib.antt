@@ -1,0 +1,3 @@
+pub mod Sorted
+pub mod End
+pub mod Decided

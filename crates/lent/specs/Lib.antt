@@ -1,2 +1,0 @@
--- A call over the state's numbers alone.
-pub mod Counted

@@ -1,0 +1,44 @@
+use denote.Ref.{now}
+use Rattle.rules.specs.Lent.{Rows, Log}
+use Rattle.rules.specs.Contract.{rowsNow}
+use mathlib.Core.Path.{sym, _∙_}
+use Rattle.undo_log.specs.HeadCalls.{headCall}
+use Rattle.decide.proofs.FitLaws.{good}
+use Rattle.decide.proofs.DoesLaws.{bad-does, rest-carried}
+use borrow.Author.Needs.{needs}
+use Rattle.table.proofs.call.rest.Statement.{statement}
+use Rattle.table.proofs.call.rest.Tie as tie
+
+abbrev rows : tie.Start → Rows
+rows e = let a = e .args in rowsNow (a .parents) (a .crowns) (a .amounts)
+
+abbrev log : tie.Start → Log
+log e = now (e .args .log)
+
+bad-state-requires : tie.Need-bad-state-requires
+bad-state-requires c κs = search needs
+
+refusal-requires : tie.Need-refusal-requires
+refusal-requires c κs = search needs
+
+on-head-requires : tie.Need-on-head-requires
+on-head-requires c κs =
+    let e = c .before .before .before .before .before .before in
+    good (rows e) (log e) (e .args .head) (sym (c .before .bad-state .ensures) ∙ c .if1 .left) .opened
+
+returns : tie.Need-returns
+returns c =
+    let e = c .before .before .before .before .before .before .before in
+    let a = e .args in
+    rw (c .refusal .ensures)
+    (bad-does (rows e) (log e) (a .head) (a .last) (a .sought) (headCall (a .call)) (sym (c .before .before .bad-state .ensures) ∙ c .before .if1 .taken) .0)
+
+returns-2 : tie.Need-returns-2
+returns-2 c =
+    let e = c .before .before .before .before .before .before .before in
+    let a = e .args in
+    rest-carried (rows e) (log e) (a .head) (a .last) (a .sought) (a .call) (sym (c .before .before .bad-state .ensures) ∙ c .before .if1 .left) _
+    (c .on-head .ensures)
+
+pub rest-spec : {M : Type 1} → statement M
+rest-spec = tie.close (tie.spec bad-state-requires refusal-requires returns on-head-requires returns-2)

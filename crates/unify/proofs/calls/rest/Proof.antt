@@ -1,0 +1,35 @@
+use mathlib.Core.Path.{subst}
+use Rattle.rules.specs.declared.call.Call.{Call}
+use Rattle.rules.specs.Contract.{tableNow}
+use Rattle.decide.specs.Decided.{Carried}
+use Rattle.unify.proofs.AfterLaws.{by-state}
+use borrow.Author.Needs.{needs}
+use Rattle.unify.proofs.calls.rest.Statement.{statement}
+use Rattle.unify.proofs.calls.rest.Tie as tie
+
+mark-for-requires : tie.Need-mark-for-requires
+mark-for-requires c κs = search needs
+
+head-of-requires : tie.Need-head-of-requires
+head-of-requires c κs = search needs
+
+rest-requires : tie.Need-rest-requires
+rest-requires c κs = search needs
+
+state-after-requires : tie.Need-state-after-requires
+state-after-requires c κs = search needs
+
+returns : tie.Need-returns
+returns c =
+    let k = c .before in
+    let h = k .before .head-of in
+    let m = k .before .before .mark-for in
+    let e = k .before .before .before .before .before .before .before in
+    let a = e .args in
+    let t = tableNow (a .parents) (a .crowns) (a .amounts) (a .log) in
+    by-state t t (a .state) (a .call) (h .result) (m .result) (k .rest .result) (c .state-after .result) (h .ensures) (m .ensures)
+    (subst (λ (x : Call). Carried t t (h .result) (a .state .last) (m .result) x (k .rest .result)) (e .pre) (k .rest .ensures))
+    (c .state-after .ensures)
+
+pub rest-spec : {M : Type 1} → statement M
+rest-spec = tie.close (tie.spec mark-for-requires head-of-requires rest-requires state-after-requires returns)
