@@ -10,6 +10,7 @@ from lists import Known, named_keys
 LIMIT = 600  # seconds for one run of a program
 WIDE = 1100  # with more rows than this, the live table is not looked at after each call
 LIVE_EVERY = 1000  # but after so many
+RUN = 9  # calls of a small table that follow one another, where lists are to be lent
 FEW = 16  # of so many calls, all sublists are tried
 SECONDS = 300  # for leaving out calls; a list that cannot be made much shorter would take for ever
 TOKEN_CALLS = ("rollback", "commit", "keys", "actions", "changes")
@@ -18,10 +19,10 @@ STATE = re.compile(rb" state (\d+) (\d+) ")
 
 
 def run(program, lines):
-    """What a program prints for a list, line by line, and then how it ended, if not well."""
+    """What a program, with its arguments, prints for a list, line by line, and then how it ended, if not well."""
     text = ("\n".join(lines) + "\n").encode()
     try:
-        done = subprocess.run([str(program)], input=text, stdout=subprocess.PIPE, timeout=LIMIT)
+        done = subprocess.run(list(map(str, program)), input=text, stdout=subprocess.PIPE, timeout=LIMIT)
     except subprocess.TimeoutExpired:
         return [ENDED + b"not at all"]
     printed = done.stdout.split(b"\n")
@@ -81,6 +82,23 @@ def lent_exactly(shown, answers):
     return lent
 
 
+def in_runs(shown, answers):
+    """A list in which calls follow one another, and what is answered to it. Rows are left out, and the live table but
+    for each RUN calls and for the end of a table."""
+    kept, calls = [], 0
+    for at, line in enumerate(shown):
+        if line == "live":
+            if calls < RUN and at + 1 < len(shown) and not is_table(shown[at + 1]):
+                continue
+            calls = 0
+        elif line.startswith("row"):
+            continue
+        else:
+            calls = 0 if is_table(line) else calls + 1
+        kept.append(at)
+    return [shown[at] for at in kept], [answers[at] for at in kept]
+
+
 class Difference(typing.NamedTuple):
     shown: list  # what was asked, up to the first line that is answered differently
     meter: bytes
@@ -112,10 +130,11 @@ def first_difference(asked, mine, theirs):
 
 
 class Pair:
-    """The meter and the oracle, each a function from lines to printed lines."""
+    """The meter and the oracle, each a function from lines to printed lines, and whether calls are to follow one
+    another in the lists."""
 
-    def __init__(self, meter, oracle):
-        self.meter, self.oracle = meter, oracle
+    def __init__(self, meter, oracle, in_runs=False):
+        self.meter, self.oracle, self.in_runs = meter, oracle, in_runs
         self.in_time = True
 
     def ask(self, lines):
@@ -128,6 +147,8 @@ class Pair:
             shown = with_live(lines)
             theirs = self.oracle(shown)
             shown = lent_exactly(shown, theirs)
+        if self.in_runs:
+            shown, theirs = in_runs(shown, theirs)
         return shown, self.meter(shown), theirs
 
     def difference(self, lines):

@@ -1,12 +1,51 @@
 //! One line of input, read as a command.
 
 pub enum Command {
-    Table,
+    Table { rows: u32, entries: u32 },
     Row(u32),
     Live,
-    /// A command for memory that the crate does not have: damage, and what lies past the live rows.
-    ForLentMemory,
+    Dump,
+    Damage(Damage),
     Call(Call),
+}
+
+/// Writes to lent memory, which the crate does not have.
+pub enum Damage {
+    SetRow {
+        key: u32,
+        row: Row,
+    },
+    SetEntry {
+        entry: u32,
+        kind: u32,
+        key: u32,
+        row: Row,
+    },
+    SetState {
+        count: u32,
+        used: u32,
+        open: u32,
+        last: u64,
+    },
+    SetMark {
+        mark: u32,
+        serial: u64,
+        log_len: u32,
+        keys: u32,
+    },
+    Lend {
+        parents: u32,
+        crowns: u32,
+        amounts: u32,
+        log: u32,
+    },
+}
+
+pub struct Row {
+    pub parent: u32,
+    pub rank: u32,
+    pub owner: u32,
+    pub amount: u64,
 }
 
 pub enum Call {
@@ -36,8 +75,13 @@ impl Words<'_> {
         N::try_from(decimal(self.0.next()?)?).ok()
     }
 
-    fn numbers<N: TryFrom<u64>>(&mut self, how_many: usize) -> Option<()> {
-        (0..how_many).try_for_each(|_| self.number::<N>().map(drop))
+    fn row(&mut self) -> Option<Row> {
+        Some(Row {
+            parent: self.number()?,
+            rank: self.number()?,
+            owner: self.number()?,
+            amount: self.number()?,
+        })
     }
 }
 
@@ -68,36 +112,52 @@ impl Command {
     }
 
     fn read_other(name: &[u8], words: &mut Words) -> Option<Command> {
-        match name {
-            b"table" => words.numbers::<u32>(2).map(|()| Command::Table),
-            b"row" => words.number().map(Command::Row),
-            b"live" => Some(Command::Live),
-            b"dump" => Some(Command::ForLentMemory),
-            _ => read_damage(name, words).map(|()| Command::ForLentMemory),
-        }
+        Some(match name {
+            b"table" => Command::Table {
+                rows: words.number()?,
+                entries: words.number()?,
+            },
+            b"row" => Command::Row(words.number()?),
+            b"live" => Command::Live,
+            b"dump" => Command::Dump,
+            _ => Command::Damage(Damage::read(name, words)?),
+        })
     }
 }
 
-/// The damage commands are told from lines that are no command, and that is all.
-fn read_damage(name: &[u8], words: &mut Words) -> Option<()> {
-    match name {
-        b"set_row" => words
-            .numbers::<u32>(4)
-            .and_then(|()| words.numbers::<u64>(1)),
-        b"set_entry" => words
-            .numbers::<u32>(6)
-            .and_then(|()| words.numbers::<u64>(1)),
-        b"set_state" => words
-            .numbers::<u32>(3)
-            .and_then(|()| words.numbers::<u64>(1)),
-        b"set_mark" => {
-            words.number::<u32>().filter(|&mark| mark < 32)?;
-            words
-                .numbers::<u64>(1)
-                .and_then(|()| words.numbers::<u32>(2))
-        }
-        b"lend" => words.numbers::<u32>(4),
-        _ => None,
+impl Damage {
+    fn read(name: &[u8], words: &mut Words) -> Option<Damage> {
+        Some(match name {
+            b"set_row" => Damage::SetRow {
+                key: words.number()?,
+                row: words.row()?,
+            },
+            b"set_entry" => Damage::SetEntry {
+                entry: words.number()?,
+                kind: words.number()?,
+                key: words.number()?,
+                row: words.row()?,
+            },
+            b"set_state" => Damage::SetState {
+                count: words.number()?,
+                used: words.number()?,
+                open: words.number()?,
+                last: words.number()?,
+            },
+            b"set_mark" => Damage::SetMark {
+                mark: words.number().filter(|&mark| mark < 32)?,
+                serial: words.number()?,
+                log_len: words.number()?,
+                keys: words.number()?,
+            },
+            b"lend" => Damage::Lend {
+                parents: words.number()?,
+                crowns: words.number()?,
+                amounts: words.number()?,
+                log: words.number()?,
+            },
+            _ => return None,
+        })
     }
 }
 

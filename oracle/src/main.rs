@@ -1,10 +1,12 @@
 //! Reads a list of calls and prints what the crate ena answers, line by line.
 
 mod answer;
+#[allow(dead_code)] // what is lent is read over here; the program `library` reads it
 mod command;
 mod fields;
 mod guard;
 mod key;
+mod lines;
 mod log;
 mod rows;
 mod shared;
@@ -40,33 +42,22 @@ fn main() -> ExitCode {
     }
 }
 
-/// Lines are bytes: one that is no text at all is no command either.
-fn answer_all(mut input: impl BufRead, output: &mut impl Write) -> io::Result<()> {
+fn answer_all(input: impl BufRead, output: &mut impl Write) -> io::Result<()> {
     let mut oracle = Oracle(Some(Table::fresh()));
-    let mut line = Vec::new();
-    let mut line_number = 0u64;
-    while input.read_until(b'\n', &mut line)? > 0 {
-        line_number += 1;
-        let text = line.strip_suffix(b"\n").unwrap_or(&line);
-        if !text.is_empty() && !text.starts_with(b"#") {
-            match Command::read(text) {
-                Some(command) => oracle.answer(&command, output)?,
-                None => writeln!(output, "error {line_number}")?,
-            }
-        }
-        line.clear();
-    }
-    Ok(())
+    lines::each(input, |number, line| match Command::read(line) {
+        Some(command) => oracle.answer(&command, output),
+        None => writeln!(output, "error {number}"),
+    })
 }
 
 impl Oracle {
     fn answer(&mut self, command: &Command, output: &mut impl Write) -> io::Result<()> {
         match (command, &mut self.0) {
-            (Command::Table, _) => {
+            (Command::Table { .. }, _) => {
                 self.0 = Some(Table::fresh());
                 writeln!(output, "table")
             }
-            (Command::ForLentMemory, _) => writeln!(output, "unknown"),
+            (Command::Dump | Command::Damage(_), _) => writeln!(output, "unknown"),
             (_, None) => writeln!(output, "dead"),
             (Command::Live, Some(table)) => {
                 writeln!(output, "{}", table.live().map_err(io::Error::other)?)

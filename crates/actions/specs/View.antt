@@ -11,7 +11,7 @@ use Rattle.rules.specs.Numbers.{ENTRY, KIND-UNKNOWN, KIND-NEW, KIND-SET}
 use Rattle.rules.specs.Lent.{Log, Table, entries, oldAt}
 use Rattle.rules.specs.Tokens.{actionsView}
 use Rattle.rules.specs.Step.{step}
-use Rattle.snapshot_vec.specs.declared.entries.Numbers.{Numbers}
+use Rattle.parts.specs.declared.entries.Numbers.{Numbers}
 use Rattle.actions.specs.declared.view.Actions.{Actions}
 
 -- The part of the log that a view refers to.

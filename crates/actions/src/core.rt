@@ -6,12 +6,12 @@ ghost use Rattle.rules.specs.Lent.{oldAt, entryAt};
 ghost use Rattle.rules.specs.Tokens.{viewed};
 ghost use Rattle.rules.specs.Contract.{logLent};
 ghost use Rattle.actions.specs.View.{lentAt, actionOf};
+use parts::entries::Numbers;
 use rules::numbers::ENTRY;
 use rules::numbers::KIND_NEW;
 use rules::numbers::KIND_SET;
 use rules::table::Row;
 use rules::table::UndoLog;
-use snapshot_vec::entries::Numbers;
 
 // The part of a log from an entry to an entry; what lies past its end is left out.
 pub fn part(log: &[u32], from: u32, to: u32) -> &[u32]
@@ -50,7 +50,7 @@ fn old_of(log: &[u32], i: usize) -> Row
     ensures { let l = logLent log in λ r. ⌜ r ≡ oldAt (l .entry) (i * ENTRY) ⌝ }
 {
     let owner = rules::owner::owner_of(number(log, i, 4));
-    let amount = snapshot_vec::amounts::amount_of(number(log, i, 5), number(log, i, 6));
+    let amount = parts::amounts::amount_of(number(log, i, 5), number(log, i, 6));
     Row {
         parent: number(log, i, 2),
         rank: number(log, i, 3),

@@ -3,9 +3,9 @@ ghost use Rattle.rules.specs.Lent.{entryAt};
 ghost use Rattle.rules.specs.Tokens.{viewed};
 ghost use Rattle.rules.specs.Contract.{logLent};
 ghost use Rattle.actions.specs.View.{shown, countOf, lentAt};
+use parts::entries::Numbers;
 use rules::numbers::ENTRY;
 use rules::table::UndoLog;
-use snapshot_vec::entries::Numbers;
 
 // The entries since a snapshot: the log's part from the mark's log length to the used end.
 pub struct Actions<'a> {

@@ -1,12 +1,12 @@
 ghost use mathlib.Core.Path.{_≡_};
 ghost use mathlib.Core.List.{[], _∷_, _++_};
 ghost use lib.ListN.{length};
-ghost use Prim.Native.Nat.{_+_, _-_, _<_};
+ghost use Prim.Native.Nat.{_+_, _<_};
 ghost use Rattle.rules.specs.Contract.{memoryNow, memoryLent};
 ghost use Rattle.rules.specs.Write.{redirect, crown, puts};
 ghost use Rattle.roots.specs.Trail.{walkOf, compressed, Sound};
 ghost use Rattle.plans.specs.Plans.{finishOf, andThen, InsideEnd};
-ghost use Rattle.carry.specs.Ready.{Ready};
+ghost use Rattle.parts.specs.Ready.{Ready};
 use plans::verdict::Finish;
 use roots::path::Trail;
 use rules::table::Value;
@@ -118,7 +118,7 @@ pub fn carry_out(
     ensures { let m = memoryLent parents crowns amounts log in
         λ r. ⌜ m .exit opened r ≡ puts (m .entry opened used) (andThen (walkOf first ++ walkOf second) end) ⌝ }
 {
-    let one = crate::walk::rewrite(parents, crowns, amounts, log, count, opened, used, first);
-    let two = crate::walk::rewrite(parents, crowns, amounts, log, count, opened, one, second);
+    let one = rewrites::walk::rewrite(parents, crowns, amounts, log, count, opened, used, first);
+    let two = rewrites::walk::rewrite(parents, crowns, amounts, log, count, opened, one, second);
     finish(parents, crowns, amounts, log, count, opened, two, end)
 }

@@ -1,145 +1,22 @@
 // What a call comes to, judged over `&` parts before anything is written.
 ghost use mathlib.Core.Bool.{false};
 ghost use mathlib.Core.Path.{_≡_};
-ghost use Prim.Native.Nat.{ℕ};
-ghost use Rattle.rules.specs.declared.call.Call.the-variants.{New, TryProbe, Rollback};
-ghost use Rattle.rules.specs.declared.table.Sought.{Sought};
 ghost use Rattle.rules.specs.Contract.{rowsNow, rowsLent, logLent};
 ghost use Rattle.rules.specs.Refusal.{sizesOf, bad};
-ghost use Rattle.decide.specs.Decided.{Does, Decided};
-use crate::near::near_walk;
-use crate::sorted::Sorted;
-use crate::sorted::WalkCall;
-use crate::sorted::sort;
-use crate::todo::End;
-use crate::todo::Todo;
-use crate::todo::refused;
-use crate::todo::still;
-use plans::plan::value_of;
-use plans::room::lacks;
-use rules::answer::found;
-use rules::answer::held;
-use rules::answer::refusal;
-use rules::answer::said;
+ghost use Rattle.decisions.specs.Decided.{Decided};
+use crate::sort::sort;
+use decisions::decision::Decision;
+use decisions::sorted::Sorted;
+use decisions::todo::refused;
+use decisions::todo::still;
+use direct::calls::new_key;
+use direct::calls::roll_back;
+use direct::calls::try_probe;
+use near::calls::near_walk;
 use rules::call::Call;
 use rules::numbers::BAD_STATE;
-use rules::numbers::BROKEN_TABLE;
-use rules::numbers::DONE;
-use rules::numbers::ENTRY;
-use rules::numbers::KEYS_FULL;
-use rules::numbers::LOG_FULL;
-use rules::numbers::NO_KEY;
-use rules::numbers::NOT_INNERMOST;
-use rules::owner::owner_of;
 use rules::table::Head;
 use rules::table::Sought;
-use rules::table::Value;
-use snapshot_vec::rows::row_at;
-use undo_log::tokens::Settled;
-
-// A call is decided, or has a long walk.
-pub enum Decision {
-    Near(Todo),
-    Far(WalkCall),
-}
-
-// A new key, a root with the given owner (0 for none) and amount.
-fn new_key(
-    parents: &[u32],
-    crowns: &[u32],
-    amounts: &[u64],
-    log: &[u32],
-    head: Head,
-    owner: u32,
-    amount: u64,
-) -> Todo
-    requires { ⌜ bad (sizesOf (rowsNow parents crowns amounts) (now log)) head ≡ false ⌝ }
-    ensures { let rs = rowsLent parents crowns amounts in
-        let l = logLent log in
-        λ r. ⌜ ((last : ℕ) (m : Sought) → Does (rs .entry) (l .entry) head last m (New owner amount) r) ⌝ }
-{
-    if head.count as usize == parents.len() {
-        return refused(KEYS_FULL, head);
-    }
-    if lacks(head.open, head.used, log.len() / ENTRY, 1) {
-        return refused(LOG_FULL, head);
-    }
-    let value = Value {
-        owner: owner_of(owner),
-        amount,
-    };
-    let answer = found(head.count, 0);
-    let after = Head {
-        count: head.count + 1,
-        used: head.used,
-        open: head.open,
-    };
-    let settled = Settled {
-        answer,
-        head: after,
-    };
-    let end = End::Push(head.count, value);
-    Todo { settled, end }
-}
-
-// The value of a key that is a root, without a walk.
-fn try_probe(
-    parents: &[u32],
-    crowns: &[u32],
-    amounts: &[u64],
-    log: &[u32],
-    head: Head,
-    key: u32,
-) -> Todo
-    requires { ⌜ bad (sizesOf (rowsNow parents crowns amounts) (now log)) head ≡ false ⌝ }
-    ensures { let rs = rowsLent parents crowns amounts in
-        let l = logLent log in
-        λ r. ⌜ ((last : ℕ) (m : Sought) → Does (rs .entry) (l .entry) head last m (TryProbe key) r) ⌝ }
-{
-    if key >= head.count {
-        return refused(NO_KEY, head);
-    }
-    let row = row_at(parents, crowns, amounts, key);
-    if row.parent != key {
-        let answer = said(false, 0);
-        return still(Settled { answer, head });
-    }
-    let answer = held(value_of(row));
-    still(Settled { answer, head })
-}
-
-// All that was done since the innermost snapshot, taken back; the snapshot is closed.
-fn roll_back(
-    parents: &[u32],
-    crowns: &[u32],
-    amounts: &[u64],
-    log: &[u32],
-    head: Head,
-    sought: Sought,
-    token: u64,
-) -> Todo
-    requires { ⌜ bad (sizesOf (rowsNow parents crowns amounts) (now log)) head ≡ false ⌝ }
-    ensures { let rs = rowsLent parents crowns amounts in
-        let l = logLent log in
-        λ r. ⌜ ((last : ℕ) → Does (rs .entry) (l .entry) head last sought (Rollback token) r) ⌝ }
-{
-    match sought {
-        Sought::Missing => refused(NOT_INNERMOST, head),
-        Sought::Held(mark) => {
-            if rollback::rollback::broken(head, mark, log) {
-                return refused(BROKEN_TABLE, head);
-            }
-            let answer = refusal(DONE);
-            let after = rollback::rollback::rolled_back(head, mark);
-            let settled = Settled {
-                answer,
-                head: after,
-            };
-            let end = End::Undo(head.used);
-            Todo { settled, end }
-        }
-    }
-}
 
 // Any call on a table whose state and lent parts are not bad.
 fn decide_good(
@@ -186,7 +63,7 @@ fn decide_good(
             sought,
             token,
         )),
-        Sorted::Rest(c) => Decision::Near(still(undo_log::tokens::on_head(head, last, sought, c))),
+        Sorted::Rest(c) => Decision::Near(still(head_calls::calls::on_head(head, last, sought, c))),
     }
 }
 
@@ -205,7 +82,7 @@ pub fn decide(
         let l = logLent log in
         λ r. ⌜ Decided (rs .entry) (l .entry) head last sought call r ⌝ }
 {
-    if undo_log::state::bad_state(head, parents.len(), crowns.len(), amounts.len(), log.len()) {
+    if states::bad::bad_state(head, parents.len(), crowns.len(), amounts.len(), log.len()) {
         return Decision::Near(refused(BAD_STATE, head));
     }
     decide_good(parents, crowns, amounts, log, head, last, sought, call)

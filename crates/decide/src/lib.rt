@@ -1,6 +1,3 @@
 // Any call decided over `&` parts, a head and the mark in question: its answer and what is to be written. Nothing here writes.
 pub mod any;
-pub mod far;
-mod near;
-pub mod sorted;
-pub mod todo;
+mod sort;

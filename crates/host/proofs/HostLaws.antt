@@ -1,172 +1,81 @@
--- A call on lent numbers, and a list of them, is the rules' step and a run of it. Assumes nothing.
+-- What the tests come to is what the exported functions leave. Assumes nothing.
 use mathlib.Core.Path.{_≡_, refl, sym, ap, _∙_}
-use mathlib.Core.Bool.{true, false}
-use mathlib.Core.List.{List, [], _++_}
-use Prim.Native.Nat.{ℕ, suc, _+_, _*_, _≤_, _<_}
+use mathlib.Core.Bool.{Bool, true, false, cond}
+use mathlib.Core.List.{List}
+use Prim.Native.Nat.{ℕ, _*_, _≤_}
 use native.Mathlib.Omega.{arith}
-use lib.ListN.{length, drop}
-use lib.Seq.{sets, drop-length}
-use borrow.Author.Tests.{lt-ltb, le-ltb, eq-eqb, ne-eqb}
-use Rattle.rules.specs.declared.call.Answer.{Answer}
-use Rattle.rules.specs.declared.call.Call.{Call}
-use Rattle.rules.specs.declared.table.Head.{Head}
-use Rattle.rules.specs.declared.table.Mark.{Mark}
-use Rattle.rules.specs.declared.table.Sought.{Sought}
-use Rattle.rules.specs.declared.table.State.{State}
-use Rattle.rules.specs.Lent.{Table}
-use Rattle.rules.specs.Answer.{answerNumbers}
-use Rattle.rules.specs.Refusal.{Outcome, outcome}
-use Rattle.rules.specs.Step.{step}
-use Rattle.undo_log.specs.declared.tokens.Settled.{Settled}
-use Rattle.undo_log.specs.Settled.{stateWith, stateAfter, markFor}
-use Rattle.decide.specs.Decided.{Carried}
-use Rattle.layout.specs.State.{NUMBERS, SERIALS, Sized}
-use Rattle.layout.specs.Coding.{Listed, unlisted, calls, callList, single, isListed, callsIn, callAt}
-use Rattle.layout.specs.Answers.{answersNumbers}
-use Rattle.layout.proofs.LayoutLaws.{numbers-state}
-use Rattle.layout.proofs.CodingLaws.{Next, next-call}
-use Rattle.host.specs.Run.{run}
-use Rattle.host.specs.Host.{CARRIED-OUT, NO-STATE, NO-CALL, NO-ROOM, Host, host, hosted, tableOf, served, heard, serve}
+use lib.ListN.{length}
+use lib.Dec.{ltb}
+use borrow.Author.Tests.{eq-eqb, ne-eqb}
+use Rattle.layout.specs.State.{Sized}
+use Rattle.coding.specs.Coding.{Listed, unlisted, calls, callList, single, isListed, callsIn}
+use Rattle.coding.proofs.CodingLaws.{four-each}
+use Rattle.admit.specs.Admit.{CARRIED-OUT, NO-STATE, NO-ROOM, hearing, admission}
+use Rattle.admit.proofs.AdmitLaws.{admitted, never-out}
+use Rattle.runs.specs.Served.{Host, served}
+use Rattle.host.specs.Host.{Hosted, hosted, refuseHost, stateless, heard, serve}
 
--- ---- one call, between reading the head and writing what it leaves
+-- ---- each end
 
-module _ (entry exit : State → Table) (h₀ : Head) (l : ℕ) (ms : List Mark) (c : Call) where
-  pub one-done : (h : Head) (m : Sought) (r : Settled) (s : State) → h ≡ h₀ → m ≡ markFor (stateWith h₀ l ms) c
-      → Carried entry exit h l m c r → s ≡ stateAfter (stateWith h₀ l ms) r → outcome (r .answer) (exit s) ≡ step (entry (stateWith h₀ l ms)) c
-  one-done h m r s p q e w =
-      ap (λ (x : State). outcome (r .answer) (exit x)) w
-      ∙ (rw p at e) ms (sym q)
+-- Whether there is room.
+abbrev roomCode : Bool → ℕ
+roomCode b = cond b NO-ROOM CARRIED-OUT
 
--- ---- a list of calls
+module _ (h : Host) where
+  away-full : (b : Bool) (x : Hosted) → (roomCode b ≡ CARRIED-OUT → ⊥) → hosted (roomCode b) h ≡ refuseHost b NO-ROOM h x
+  away-full true x d = refl
+  away-full false x d = absurd (d refl)
 
--- All that is lent, from its lists.
-abbrev pub hostOf : List ℕ → List ℕ → List ℕ → List ℕ → List ℕ → List ℕ → List ℕ → Host
-hostOf ns ss p c a l answers = host ns ss record { parents = p; crowns = c; amounts = a } l answers
+  out-roomy : (b : Bool) (x : Hosted) → roomCode b ≡ CARRIED-OUT → x ≡ refuseHost b NO-ROOM h x
+  out-roomy true x e = absurd (omega arith)
+  out-roomy false x e = refl
 
--- No lent list changes its length.
-pub record Kept (h₀ h : Host) : Type 0 where
-  pub numbers : length (h .numbers) ≡ length (h₀ .numbers)
-  pub serials : length (h .serials) ≡ length (h₀ .serials)
-  pub parents : length (h .rows .parents) ≡ length (h₀ .rows .parents)
-  pub crowns : length (h .rows .crowns) ≡ length (h₀ .rows .crowns)
-  pub amounts : length (h .rows .amounts) ≡ length (h₀ .rows .amounts)
-  pub log : length (h .log) ≡ length (h₀ .log)
-  pub answers : length (h .answers) ≡ length (h₀ .answers)
+-- Whether the state's numbers are there.
+abbrev code : Bool → Host → Listed → ℕ
+code b h l = cond b NO-STATE (hearing l (length (h .answers)))
 
--- What is left to be done of the calls, from `at` on, leads to the same end.
-pub record Going (h₀ h : Host) (l : List ℕ) (at to : ℕ) : Type 0 where
-  pub kept : Kept h₀ h
-  pub sized : Sized (h .numbers) (h .serials)
-  pub calls : isListed (callList (drop at l)) ≡ true
-  pub within : at ≤ length l
-  pub pace : 4 * to ≡ 9 * at
-  pub room : 9 * length l ≤ 4 * length (h .answers)
-  pub table : run (tableOf h) (callsIn (callList (drop at l))) .table ≡ run (tableOf h₀) (callsIn (callList l)) .table
-  pub answers : sets (h .answers) to (answersNumbers (run (tableOf h) (callsIn (callList (drop at l))) .answers))
-      ≡ sets (h₀ .answers) 0 (answersNumbers (run (tableOf h₀) (callsIn (callList l)) .answers))
+away : (b : Bool) (h : Host) (l : Listed) → (code b h l ≡ CARRIED-OUT → ⊥) → hosted (code b h l) h ≡ refuseHost b NO-STATE h (heard h l)
+away true h l d = refl
+away false h unlisted d = refl
+away false h (calls cs) d = away-full h (ltb (length (h .answers)) (9 * length cs)) (hosted CARRIED-OUT (served h cs)) d
 
-pub going-starts : (h : Host) (l : List ℕ) → Sized (h .numbers) (h .serials) → isListed (callList l) ≡ true
-    → 9 * length l ≤ 4 * length (h .answers) → Going h h l 0 0
-going-starts h l z c r =
-    record {
-      kept = omega arith;
-      sized = z;
-      calls = c;
-      within = omega arith;
-      pace = refl;
-      room = r;
-      table = refl;
-      answers = refl;
-    }
+out : (b : Bool) (h : Host) (l : Listed) → code b h l ≡ CARRIED-OUT → hosted CARRIED-OUT (served h (callsIn l)) ≡ refuseHost b NO-STATE h (heard h l)
+out true h l e = absurd (omega arith)
+out false h unlisted e = absurd (omega arith)
+out false h (calls cs) e = out-roomy h (ltb (length (h .answers)) (9 * length cs)) (hosted CARRIED-OUT (served h cs)) e
 
-nine-on : (l : List ℕ) (to : ℕ) (a : Answer) (ns : List ℕ) → sets (sets l to (answerNumbers a)) (to + 9) ns ≡ sets l to (answerNumbers a ++ ns)
-nine-on l to a ns = let e : to + 9 ≡ suc (suc (suc (suc (suc (suc (suc (suc (suc to)))))))) = omega arith in rw e
+-- The number that the tests come to.
+abbrev pub codeOf : Host → Listed → ℕ
+codeOf h l = admission (length (h .numbers)) (length (h .serials)) l (length (h .answers))
 
-module _ (h₀ h : Host) (l : List ℕ) (at to : ℕ) (g : Going h₀ h l at to) where
-  module _ (k : at < length l) where
-    pub next-of : Next l at
-    next-of = next-call l at k (g .calls)
+module _ (h : Host) (l : Listed) (n : ℕ) (q : n ≡ codeOf h l) where
+  pub turned-away : (n ≡ CARRIED-OUT → ⊥) → hosted n h ≡ serve h l
+  unfolding admission serve
+  turned-away d = ap (λ (x : ℕ). hosted x h) q ∙ away (stateless h) h l (λ e. d (q ∙ e))
 
-    pub room-of : to + 9 ≤ length (h .answers)
-    room-of = omega (arith, next-of .room, g .room, g .pace)
+  pub carried-out : (h′ : Host) → n ≡ CARRIED-OUT → h′ ≡ served h (callsIn l) → hosted n h′ ≡ serve h l
+  unfolding admission serve
+  carried-out h′ e w = rw (e, w) (out (stateless h) h l (sym q ∙ e))
 
-    pub going-on : (h′ : Host) (a : Answer) (c : Call) → c ≡ callAt l at → outcome a (tableOf h′) ≡ step (tableOf h) c
-        → h′ .answers ≡ sets (h .answers) to (answerNumbers a) → Kept h h′ → Going h₀ h′ l (at + 4) (to + 9)
-    unfolding run answersNumbers
-    going-on h′ a c q e w m =
-        let n = next-of in
-        let rest = callsIn (callList (drop (at + 4) l)) in
-        let o : outcome a (tableOf h′) ≡ step (tableOf h) (callAt l at) = e ∙ ap (step (tableOf h)) q in
-        let t : tableOf h′ ≡ step (tableOf h) (callAt l at) .table = ap (λ (x : Outcome). x .table) o in
-        let b : a ≡ step (tableOf h) (callAt l at) .answer = ap (λ (x : Outcome). x .answer) o in
-        record {
-          kept = omega (arith, m, g .kept);
-          sized = omega (arith, m, g .sized);
-          calls = n .goes-on;
-          within = n .room;
-          pace = omega (arith, g .pace);
-          room = omega (arith, g .room, m .answers);
-          table = ap (λ (x : Table). run x rest .table) t ∙ ap (λ (cs : List Call). run (tableOf h) cs .table) (sym (n .calls)) ∙ g .table;
-          answers = ap (λ (x : List ℕ). sets x (to + 9) (answersNumbers (run (tableOf h′) rest .answers))) w
-              ∙ nine-on (h .answers) to a (answersNumbers (run (tableOf h′) rest .answers))
-              ∙ ap (λ (x : Table). sets (h .answers) to (answerNumbers a ++ answersNumbers (run x rest .answers))) t
-              ∙ ap (λ (x : Answer). sets (h .answers) to (answerNumbers x ++ answersNumbers (run (step (tableOf h) (callAt l at) .table) rest .answers))) b
-              ∙ ap (λ (cs : List Call). sets (h .answers) to (answersNumbers (run (tableOf h) cs .answers))) (sym (n .calls))
-              ∙ g .answers;
-        }
+-- ---- what passes the tests can be run
 
-  pub going-ends : length l ≤ at → h ≡ served h₀ (callsIn (callList l))
-  unfolding run answersNumbers served callList
-  going-ends k =
-      let all : at ≡ length l = omega (arith, g .within) in
-      let none : drop at l ≡ [] = ap (λ (n : ℕ). drop n l) all ∙ drop-length l in
-      let t : tableOf h ≡ run (tableOf h₀) (callsIn (callList l)) .table =
-      ap (λ (x : List ℕ). run (tableOf h) (callsIn (callList x)) .table) (sym none) ∙ g .table in
-      let a : h .answers ≡ sets (h₀ .answers) 0 (answersNumbers (run (tableOf h₀) (callsIn (callList l)) .answers)) =
-      ap (λ (x : List ℕ). sets (h .answers) to (answersNumbers (run (tableOf h) (callsIn (callList x)) .answers))) (sym none) ∙ g .answers in
-      let b = numbers-state (h .numbers) (h .serials) (g .sized) in
-      rw (← t, ← a, b .0, b .1)
+-- What a run asks for.
+abbrev pub Runs : Host → List ℕ → Type 0
+Runs h ns = Sized (h .numbers) (h .serials) × ((isListed (callList ns) ≡ true) × (9 * length ns ≤ 4 * length (h .answers)))
 
--- ---- the exported functions' ends
+module _ (h : Host) (ns : List ℕ) where
+  pub may-run : codeOf h (callList ns) ≡ CARRIED-OUT → Runs h ns
+  may-run e =
+      let a = admitted (length (h .numbers)) (length (h .serials)) (callList ns) (length (h .answers)) e in
+      (record { numbers = a .numbers; serials = a .serials }, (a .calls, omega (arith, a .room, four-each ns (a .calls))))
 
-unlisted-is : (l : Listed) → isListed l ≡ false → l ≡ unlisted
-unlisted-is unlisted e = refl
-unlisted-is (calls cs) e = absurd (let z : _≡_ {A = ℕ} 0 1 = cc in omega arith)
+-- ---- the list of a single call
 
-calls-are : (l : Listed) → isListed l ≡ true → l ≡ calls (callsIn l)
-calls-are unlisted e = absurd (let z : _≡_ {A = ℕ} 0 1 = cc in omega arith)
-calls-are (calls cs) e = refl
+module _ (h : Host) (ns : List ℕ) (n : ℕ) where
+  pub as-single : (h′ : Host) → length ns ≡ 4 → hosted n h′ ≡ serve h (callList ns) → hosted n h′ ≡ serve h (single ns)
+  as-single h′ q e = rw (eq-eqb (length ns) 4 q) e
 
-module _ (h : Host) (l : Listed) where
-  pub no-numbers : (length (h .numbers) ≡ NUMBERS → ⊥) → hosted NO-STATE h ≡ serve h l
-  unfolding serve
-  no-numbers d = rw (ne-eqb (length (h .numbers)) NUMBERS d)
-
-  module _ (n : length (h .numbers) ≡ NUMBERS) where
-    pub no-serials : (length (h .serials) ≡ SERIALS → ⊥) → hosted NO-STATE h ≡ serve h l
-    unfolding serve
-    no-serials d = rw (eq-eqb (length (h .numbers)) NUMBERS n, ne-eqb (length (h .serials)) SERIALS d)
-
-    module _ (s : length (h .serials) ≡ SERIALS) where
-      hear : heard h l ≡ serve h l
-      unfolding serve
-      hear = rw (eq-eqb (length (h .numbers)) NUMBERS n, eq-eqb (length (h .serials)) SERIALS s)
-
-      pub no-calls : isListed l ≡ false → hosted NO-CALL h ≡ serve h l
-      no-calls e = sym (ap (heard h) (unlisted-is l e)) ∙ hear
-
-      module _ (e : isListed l ≡ true) where
-        pub no-room : length (h .answers) < 9 * length (callsIn l) → hosted NO-ROOM h ≡ serve h l
-        no-room k = sym (ap (heard h) (calls-are l e) ∙ rw (lt-ltb (length (h .answers)) (9 * length (callsIn l)) k)) ∙ hear
-
-        pub carried-out : (h′ : Host) → 9 * length (callsIn l) ≤ length (h .answers) → h′ ≡ served h (callsIn l)
-            → hosted CARRIED-OUT h′ ≡ serve h l
-        carried-out h′ k q =
-            ap (hosted CARRIED-OUT) q ∙ sym (ap (heard h) (calls-are l e) ∙ rw (le-ltb (length (h .answers)) (9 * length (callsIn l)) k)) ∙ hear
-
--- The list of a single call.
-pub not-single : (l : List ℕ) → (length l ≡ 4 → ⊥) → isListed (single l) ≡ false
-not-single l d = rw (ne-eqb (length l) 4 d)
-
-pub as-single : (h h′ : Host) (l : List ℕ) (n : ℕ) → length l ≡ 4 → hosted n h′ ≡ serve h (callList l) → hosted n h′ ≡ serve h (single l)
-as-single h h′ l n q e = rw (eq-eqb (length l) 4 q) e
+  pub no-single : (length ns ≡ 4 → ⊥) → ((a : ℕ) → n ≡ admission (length (h .numbers)) (length (h .serials)) unlisted a) → hosted n h ≡ serve h (single ns)
+  no-single d f =
+      let a = length (h .answers) in
+      rw (ne-eqb (length ns) 4 d) (turned-away h unlisted n (f a) (λ e. never-out (length (h .numbers)) (length (h .serials)) a (sym (f a) ∙ e)))

@@ -1,3 +1,2 @@
 -- What the exported functions leave.
-pub mod Run
 pub mod Host

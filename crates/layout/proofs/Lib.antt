@@ -1,4 +1,2 @@
--- What the proofs of several functions use, and CodingLaws for the crate that carries calls out.
+-- What the proofs of several functions use.
 pub mod LayoutLaws
-pub mod CodingLaws
-pub mod AnswerLaws

@@ -1,4 +1,2 @@
--- The host's numbers, and what they stand for.
+-- The host's numbers of a state, and what they stand for.
 pub mod State
-pub mod Coding
-pub mod Answers

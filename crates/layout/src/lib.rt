@@ -1,3 +1,1 @@
-pub mod answers;
-pub mod coding;
 pub mod state;

@@ -1,5 +1,1 @@
-pub mod PieceLaws
-pub mod ReplyLaws
 pub mod LineLaws
-pub mod TurnLaws
-pub mod Examples

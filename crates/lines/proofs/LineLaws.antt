@@ -10,8 +10,8 @@ use native.Mathlib.Omega.{arith}
 use borrow.Author.Tests.{lt-ltb, le-ltb, eq-eqb, ne-eqb}
 use lib.ListN.{length, getD, set, take, drop, length-take, drop-of-length-le, List·getD-eq-default}
 use lib.Seq.{length-take-le, drop-cons, getD-take}
-use Rattle.text.specs.Command.{commandOf}
-use Rattle.text.specs.declared.command.Command.the-variants.{Blank, Error}
+use Rattle.parser.specs.Command.{commandOf}
+use Rattle.commands.specs.declared.command.Command.the-variants.{Blank, Error}
 use Rattle.lines.specs.Lines.{line, reached, keeping, gathering, cutOff, lineCommand}
 
 -- ---- gathering

@@ -1,4 +1,1 @@
-pub mod Pieces
-pub mod Replies
 pub mod Lines
-pub mod Turn

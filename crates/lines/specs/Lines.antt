@@ -4,9 +4,9 @@ use mathlib.Core.List.{List, [], _∷_}
 use Prim.Native.Nat.{ℕ, _+_}
 use lib.Dec.{eqb, ltb}
 use lib.ListN.{length, getD, set, take}
-use Rattle.text.specs.Command.{commandOf}
-use Rattle.text.specs.declared.command.Command.{Command}
-use Rattle.text.specs.declared.command.Command.the-variants.{Blank, Error}
+use Rattle.parser.specs.Command.{commandOf}
+use Rattle.commands.specs.declared.command.Command.{Command}
+use Rattle.commands.specs.declared.command.Command.the-variants.{Blank, Error}
 
 -- ---- gathering
 

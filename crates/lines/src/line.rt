@@ -1,7 +1,7 @@
 ghost use mathlib.Core.Path.{_≡_};
 ghost use Rattle.lines.specs.Lines.{cutOff, lineCommand};
-use text::command::Command;
-use text::command::parse;
+use commands::command::Command;
+use parser::parse::parse;
 
 // What a line is of which only the beginning was kept: a comment is one however long it is, and nothing else is a command.
 fn cut_off(line: &[u8]) -> Command

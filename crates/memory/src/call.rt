@@ -1,12 +1,12 @@
 ghost use mathlib.Core.Path.{_≡_};
 ghost use Rattle.rules.specs.Contract.{tableLent};
-ghost use Rattle.memory.specs.Cut.{left, called};
-use crate::lent::lent;
-use crate::reply::Changed;
-use crate::reply::Reply;
+ghost use Rattle.arrays.specs.Cut.{left, called};
+use arrays::lent::lent;
+use arrays::reply::Changed;
+use arrays::reply::Reply;
+use commands::command::Lengths;
 use rules::call::Call;
 use rules::table::State;
-use text::command::Lengths;
 
 // A call of the table on what is lent of the four parts.
 pub fn call_lent(
@@ -24,7 +24,7 @@ pub fn call_lent(
     let b = lent(lengths.crowns, crowns.len()) as usize;
     let c = lent(lengths.amounts, amounts.len()) as usize;
     let d = lent(lengths.log, log.len()) as usize;
-    let answered = unify::calls::call(
+    let answered = by_value::calls::call(
         state,
         &mut parents[..a],
         &mut crowns[..b],

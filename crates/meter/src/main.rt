@@ -1,9 +1,9 @@
-// Reads a list of calls from standard input and prints their answers. What is decided is decided in the library `lines`.
+// Reads a list of calls from standard input and prints their answers. What is decided is decided in the library `reading`.
 ghost use Prim.Native.Nat.{_≤_};
 ghost use lib.ListN.{length};
-use lines::buffer::flush;
-use lines::read::begin;
-use lines::read::turn;
+use reading::read::begin;
+use reading::read::turn;
+use show::buffer::flush;
 
 // A proved loop has to end, and nothing says that the input does: so turns are counted down, from a number that no run
 // uses up.

@@ -1,2 +1,2 @@
--- What the proofs of several functions use.
+-- What the proofs use, and `and-then` for callers.
 pub mod PlanLaws

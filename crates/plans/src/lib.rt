@@ -1,5 +1,3 @@
-// What each call that walks makes of where its walks lead, judged from the rows alone. Nothing here writes, and nothing here walks:
-// near walks and long ones come to the same plans.
-pub mod plan;
+// What a call that walks comes to: a verdict, and whether its entries fit the log. Near walks and long ones come to the same verdicts.
 pub mod room;
 pub mod verdict;

@@ -17,7 +17,7 @@ use Rattle.rules.specs.Tokens.{notInnermost, innermost, unfit, since, undoable,
 use Rattle.rules.specs.Refusal.{outcome, refused, sizesOf, bad}
 use Rattle.rules.specs.Step.{call, step}
 use Rattle.rules.proofs.StateLaws.{Good, bad-good}
-use Rattle.snapshot_vec.proofs.BoundLaws.{in-rows, in-log}
+use Rattle.parts.proofs.BoundLaws.{in-rows, in-log}
 use Rattle.undo_log.specs.Settled.{stateWith, latest}
 use Rattle.rollback.specs.Since.{Logged, Reversible, broken}
 use Rattle.rollback.proofs.UndoLaws.{undoable-rows}

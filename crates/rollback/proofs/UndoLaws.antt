@@ -12,7 +12,7 @@ use Rattle.rules.specs.declared.table.UndoLog.{UndoLog}
 use Rattle.rules.specs.declared.table.UndoLog.the-variants.{NewElem, SetElem, Unknown}
 use Rattle.rules.specs.Lent.{Rows, Log, entryAt}
 use Rattle.rules.specs.Tokens.{newestFirst, undoable, reversed, undo}
-use Rattle.snapshot_vec.specs.Bounds.{InRows, Undoing}
+use Rattle.parts.specs.Bounds.{InRows, Undoing}
 use Rattle.rollback.specs.Since.{Reversible, allowed, countBefore}
 
 -- the last of `count` keys, as the code tests it

@@ -9,7 +9,7 @@ use Rattle.rules.specs.declared.table.UndoLog.{UndoLog}
 use Rattle.rules.specs.declared.table.UndoLog.the-variants.{NewElem, SetElem, Unknown}
 use Rattle.rules.specs.Lent.{Rows, Log}
 use Rattle.rules.specs.Tokens.{unfit, since, undoable}
-use Rattle.snapshot_vec.specs.Bounds.{InLog, Undoing}
+use Rattle.parts.specs.Bounds.{InLog, Undoing}
 
 -- all used entries are entries of the log
 abbrev pub Logged : ℕ → Log → Type 0

@@ -4,8 +4,8 @@ ghost use Prim.Native.Nat.{_-_, _≤_};
 ghost use Rattle.rules.specs.Tokens.{newestFirst, undoable, undo};
 ghost use Rattle.rules.specs.Contract.{rowsNow, rowsLent, logLent};
 ghost use Rattle.rollback.specs.Since.{Logged, Reversible, allowed, countBefore};
+use parts::entries::entry_at;
 use rules::table::UndoLog;
-use snapshot_vec::entries::entry_at;
 use snapshot_vec::update::reverse;
 
 // Whether an entry can be undone where `count` keys are left: a new row has to be the last, a changed row has to be there.

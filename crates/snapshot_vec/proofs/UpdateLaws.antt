@@ -1,25 +1,16 @@
 -- Laws of writes: an entry's, and a row's, first its entry and then its parts. Assumes nothing.
 use mathlib.Core.Path.{_≡_, ap, _∙_}
 use mathlib.Core.List.{List}
-use Prim.Native.Nat.{ℕ, _+_, _*_}
+use Prim.Native.Nat.{ℕ, _+_}
 use lib.ListN.{set}
 use borrow.Author.Tests.{eq-eqb, ne-eqb}
 use Rattle.rules.specs.declared.table.UndoLog.{UndoLog}
 use Rattle.rules.specs.declared.table.UndoLog.the-variants.{NewElem, SetElem}
 use Rattle.rules.specs.declared.table.Row.{Row}
 use Rattle.rules.specs.declared.table.Value.{Value}
-use Rattle.rules.specs.Numbers.{ENTRY}
-use Rattle.rules.specs.Lent.{Rows, Log, rowAt, putCrown, putRow, putOld, putEntry}
+use Rattle.rules.specs.Lent.{Rows, Log, rowAt, putCrown, putRow, putEntry}
 use Rattle.rules.specs.Write.{Memory, memory, logged, put, push, redirect, crown}
 use Rattle.rules.proofs.RowLaws.{write-redirect, write-crown}
-use Rattle.snapshot_vec.specs.declared.entries.Numbers.{Numbers}
-use Rattle.snapshot_vec.specs.Numbers.{numbersOf}
-
--- kind and key are stored, and the old row is put
-pub stored : (l : Log) (i : ℕ) (e : UndoLog) (n : Numbers) (w : Log) → n ≡ numbersOf e
-    → w ≡ putOld (set (set l (i * ENTRY) (n .kind)) (i * ENTRY + 1) (n .key)) (i * ENTRY) (n .old)
-    → w ≡ putEntry l i e
-stored l i e n w q p = rw (p, q)
 
 -- nothing is logged with no snapshot open
 pub logged-shut : (e : UndoLog) (rs : Rows) (l : Log) (o u : ℕ) → o ≡ 0 → memory rs l o u ≡ logged e (memory rs l o u)

@@ -1,5 +1,2 @@
-// Rows and undo entries: read from and written to the lent slices, logged and undone.
-pub mod amounts;
-pub mod entries;
-pub mod rows;
+// Rows written and logged, and entries undone: from ena's `snapshot_vec`.
 pub mod update;

@@ -5,7 +5,7 @@ ghost use Rattle.rules.specs.Lent.{Rows, rowAt};
 ghost use Rattle.rules.specs.Write.{memory, logged, put, push, redirect, crown};
 ghost use Rattle.rules.specs.Tokens.{reversed};
 ghost use Rattle.rules.specs.Contract.{rowsNow, rowsLent, logLent, memoryLent};
-ghost use Rattle.snapshot_vec.specs.Bounds.{InRows, Loggable, Undoing};
+ghost use Rattle.parts.specs.Bounds.{InRows, Loggable, Undoing};
 use rules::table::Row;
 use rules::table::UndoLog;
 use rules::table::Value;
@@ -19,7 +19,7 @@ pub fn log_entry(log: &mut [u32], opened: u32, used: u32, entry: UndoLog) -> u32
     if opened == 0 {
         return used;
     }
-    crate::entries::put_entry(log, used, entry);
+    parts::entries::put_entry(log, used, entry);
     used + 1
 }
 
@@ -38,7 +38,7 @@ pub fn log_row(
     ensures { let m = memoryLent parents crowns amounts log in
         λ r. ⌜ m .exit opened r ≡ logged (SetElem i (rowAt (m .entry opened used .rows) i)) (m .entry opened used) ⌝ }
 {
-    let old = crate::rows::row_at(parents, crowns, amounts, i);
+    let old = parts::rows::row_at(parents, crowns, amounts, i);
     log_entry(log, opened, used, UndoLog::SetElem(i, old))
 }
 
@@ -84,7 +84,7 @@ pub fn crown(
     let more = log_row(parents, crowns, amounts, log, opened, used, key);
     let at = key as usize;
     let owner = value.owner;
-    crate::rows::put_crown(crowns, key, rank, owner);
+    parts::rows::put_crown(crowns, key, rank, owner);
     amounts[at] = value.amount;
     more
 }
@@ -106,7 +106,7 @@ pub fn push(
         λ r. ⌜ m .exit opened r ≡ push (m .entry opened used) key row ⌝ }
 {
     let more = log_entry(log, opened, used, UndoLog::NewElem(key));
-    crate::rows::put_row(parents, crowns, amounts, key, row);
+    parts::rows::put_row(parents, crowns, amounts, key, row);
     more
 }
 
@@ -118,7 +118,7 @@ pub fn reverse(parents: &mut [u32], crowns: &mut [u32], amounts: &mut [u64], ent
     match entry {
         UndoLog::NewElem(_) => {}
         UndoLog::SetElem(key, old) => {
-            crate::rows::put_row(parents, crowns, amounts, key, old);
+            parts::rows::put_row(parents, crowns, amounts, key, old);
         }
         UndoLog::Unknown => {}
     }

@@ -1,9 +1,8 @@
-ghost use mathlib.Core.Path.{_≡_};
-ghost use Rattle.rules.specs.Contract.{rowsLent, logLent, tableLent};
+ghost use Rattle.rules.specs.Contract.{tableLent};
 ghost use Rattle.undo_log.specs.HeadCalls.{headCall};
-ghost use Rattle.decide.specs.Decided.{Carried};
-use decide::any::Decision;
+ghost use Rattle.decisions.specs.Decided.{Carried};
 use decide::any::decide;
+use decisions::decision::Decision;
 use rules::answer::refusal;
 use rules::call::Call;
 use rules::numbers::BAD_STATE;
@@ -27,8 +26,8 @@ pub fn call(
 {
     let decision = decide(parents, crowns, amounts, log, head, last, sought, call);
     match decision {
-        Decision::Near(todo) => crate::end::end(parents, crowns, amounts, log, head.count, todo),
-        Decision::Far(walk) => crate::far::far(parents, crowns, amounts, log, head, walk),
+        Decision::Near(todo) => writes::end::end(parents, crowns, amounts, log, head.count, todo),
+        Decision::Far(walk) => writes::long::far(parents, crowns, amounts, log, head, walk),
     }
 }
 
@@ -45,9 +44,9 @@ pub fn rest(
 ) -> Settled
     ensures { let t = tableLent parents crowns amounts log in λ r. ⌜ Carried (t .entry) (t .exit) head last sought (headCall call) r ⌝ }
 {
-    if undo_log::state::bad_state(head, parents.len(), crowns.len(), amounts.len(), log.len()) {
+    if states::bad::bad_state(head, parents.len(), crowns.len(), amounts.len(), log.len()) {
         let answer = refusal(BAD_STATE);
         return Settled { answer, head };
     }
-    undo_log::tokens::on_head(head, last, sought, call)
+    head_calls::calls::on_head(head, last, sought, call)
 }

@@ -36,6 +36,11 @@ module _ (s : State) (a : Answer) where
   pub after-kept : stateAfter s (settled a (headOf s)) ≡ s
   after-kept = after-moved (headOf s) (omega arith)
 
+-- A question about a mark that is there.
+pub asked-fit : (h : Head) (reply : Mark → Answer) (s : Sought) (m : Mark) (a : Answer) (r : Settled) → s ≡ Held m → a ≡ reply m
+    → r ≡ refuseHead (unfit h m) BROKEN-TABLE h (settled a h) → r ≡ askedOn h reply s
+asked-fit h reply s m a r there e q = rw there (q ∙ ap (λ (x : Answer). refuseHead (unfit h m) BROKEN-TABLE h (settled x h)) e)
+
 abbrev settle : State → Settled → Answered
 settle s r = answered (r .answer) (stateAfter s r)
 

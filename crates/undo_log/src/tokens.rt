@@ -1,24 +1,21 @@
-// The calls that neither read nor write rows and entries, over a head, the last serial and the mark in question.
+// len, snapshot and commit over a head, the last serial and the mark in question.
 ghost use mathlib.Core.Path.{_≡_};
 ghost use Prim.Native.Nat.{_-_, _≤_};
-ghost use lib.Dec.{ltb};
-ghost use Rattle.rules.specs.Numbers.{MAX-OPEN, BROKEN-TABLE};
-ghost use Rattle.rules.specs.Answer.{refusal, range, said};
-ghost use Rattle.rules.specs.Tokens.{unfit, stranded, committed};
-ghost use Rattle.undo_log.specs.Settled.{settled, refuseHead};
-ghost use Rattle.undo_log.specs.HeadCalls.{snapshotOn, commitOn, askedOn, onHead};
+ghost use Rattle.rules.specs.Numbers.{MAX-OPEN};
+ghost use Rattle.rules.specs.Answer.{refusal, range};
+ghost use Rattle.rules.specs.Tokens.{stranded, committed};
+ghost use Rattle.undo_log.specs.Settled.{settled};
+ghost use Rattle.undo_log.specs.HeadCalls.{snapshotOn, commitOn};
 use crate::marks::unfit;
 use rules::answer::opened;
 use rules::answer::range;
 use rules::answer::refusal;
-use rules::answer::said;
 use rules::call::Answer;
 use rules::numbers::BROKEN_TABLE;
 use rules::numbers::DONE;
 use rules::numbers::MAX_OPEN;
 use rules::numbers::MAX_U64;
 use rules::numbers::NOT_INNERMOST;
-use rules::numbers::NOT_OPEN;
 use rules::numbers::SERIALS_SPENT;
 use rules::numbers::TOO_DEEP;
 use rules::table::Head;
@@ -41,7 +38,7 @@ pub enum HeadCall {
 }
 
 // A refusal leaves the head as it is.
-fn refused(no: u32, head: Head) -> Settled
+pub fn refused(no: u32, head: Head) -> Settled
     ensures { λ r. ⌜ r ≡ settled (refusal no) head ⌝ }
 {
     let answer = refusal(no);
@@ -49,7 +46,7 @@ fn refused(no: u32, head: Head) -> Settled
 }
 
 // How many keys there are.
-fn len(head: Head) -> Settled
+pub fn len(head: Head) -> Settled
     ensures { λ r. ⌜ r ≡ settled (range 0 (head .count)) head ⌝ }
 {
     let answer = range(0, head.count);
@@ -57,7 +54,7 @@ fn len(head: Head) -> Settled
 }
 
 // Opens a snapshot; its token is the next serial.
-fn snapshot(head: Head, last: u64) -> Settled
+pub fn snapshot(head: Head, last: u64) -> Settled
     requires { ⌜ head .«open» ≤ MAX-OPEN ⌝ }
     ensures { λ r. ⌜ r ≡ snapshotOn head last ⌝ }
 {
@@ -119,7 +116,7 @@ fn committed(head: Head) -> Head
     }
 }
 
-fn commit(head: Head, sought: Sought) -> Settled
+pub fn commit(head: Head, sought: Sought) -> Settled
     ensures { λ r. ⌜ r ≡ commitOn head sought ⌝ }
 {
     match sought {
@@ -138,69 +135,5 @@ fn commit(head: Head, sought: Sought) -> Settled
                 head: after,
             }
         }
-    }
-}
-
-// The answer to a question about a mark, where the mark is fit.
-fn if_fit(head: Head, mark: Mark, answer: Answer) -> Settled
-    ensures { λ r. ⌜ r ≡ refuseHead (unfit head mark) BROKEN-TABLE head (settled answer head) ⌝ }
-{
-    if unfit(head, mark) {
-        return refused(BROKEN_TABLE, head);
-    }
-    Settled { answer, head }
-}
-
-// The keys made since a snapshot.
-fn keys_since(head: Head, sought: Sought) -> Settled
-    ensures { λ r. ⌜ r ≡ askedOn head (λ m. range (m .keys) (head .count)) sought ⌝ }
-{
-    match sought {
-        Sought::Missing => refused(NOT_OPEN, head),
-        Sought::Held(mark) => {
-            let answer = range(mark.keys, head.count);
-            if_fit(head, mark, answer)
-        }
-    }
-}
-
-// Where in the log the entries since a snapshot lie.
-fn actions_since(head: Head, sought: Sought) -> Settled
-    ensures { λ r. ⌜ r ≡ askedOn head (λ m. range (m .«log_len») (head .used)) sought ⌝ }
-{
-    match sought {
-        Sought::Missing => refused(NOT_OPEN, head),
-        Sought::Held(mark) => {
-            let answer = range(mark.log_len, head.used);
-            if_fit(head, mark, answer)
-        }
-    }
-}
-
-// Whether anything was logged since a snapshot.
-fn has_changes(head: Head, sought: Sought) -> Settled
-    ensures { λ r. ⌜ r ≡ askedOn head (λ m. said (ltb (m .«log_len») (head .used)) 0) sought ⌝ }
-{
-    match sought {
-        Sought::Missing => refused(NOT_OPEN, head),
-        Sought::Held(mark) => {
-            let answer = said(mark.log_len < head.used, 0);
-            if_fit(head, mark, answer)
-        }
-    }
-}
-
-// Any of these calls, where the mark that it is about is at hand.
-pub fn on_head(head: Head, last: u64, sought: Sought, call: HeadCall) -> Settled
-    requires { ⌜ head .«open» ≤ MAX-OPEN ⌝ }
-    ensures { λ r. ⌜ r ≡ onHead head last sought call ⌝ }
-{
-    match call {
-        HeadCall::Len => len(head),
-        HeadCall::Snapshot => snapshot(head, last),
-        HeadCall::Commit(_) => commit(head, sought),
-        HeadCall::Keys(_) => keys_since(head, sought),
-        HeadCall::Actions(_) => actions_since(head, sought),
-        HeadCall::Changes(_) => has_changes(head, sought),
     }
 }

@@ -1,3 +1,2 @@
--- What the proofs of several functions use, and that no two outcomes meet a contract.
-pub mod AfterLaws
+-- That no two outcomes meet a contract.
 pub mod Unique

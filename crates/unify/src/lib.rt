@@ -1,3 +1,2 @@
-// The table over a state by value, as ena has it: thin over crate `table`.
+// The table's calls under ena's names, over a state by value: one line each over crate `by_value`.
 pub mod calls;
-mod state;

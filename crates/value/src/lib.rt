@@ -1,10 +1,21 @@
 ghost use mathlib.Core.Path.{_≡_};
 ghost use Prim.Native.Nat.{_+_};
+ghost use Rattle.rules.specs.Lent.{valueOf};
 ghost use Rattle.rules.specs.Merge.{summed, merge};
 use rules::numbers::MAX_U64;
 use rules::table::Merged;
 use rules::table::Owner;
+use rules::table::Row;
 use rules::table::Value;
+
+// The value of a row.
+pub fn value_of(row: Row) -> Value
+    ensures { λ r. ⌜ r ≡ valueOf row ⌝ }
+{
+    let owner = row.owner;
+    let amount = row.amount;
+    Value { owner, amount }
+}
 
 // The merge of two values: ena's `UnifyValue::unify_values`. Owners are merged before the sum is judged.
 pub fn unify_values(a: Value, b: Value) -> Merged

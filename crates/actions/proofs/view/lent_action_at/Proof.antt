@@ -27,9 +27,9 @@ use denote.Triple.Entry.{Vals, alive, onEntry}
 use denote.Triple.Statement.{Triple}
 use denote.Triple.Table.{cited}
 use Rattle.rules.specs.Tokens.{viewed}
-use Rattle.snapshot_vec.specs.declared.entries.Numbers.{Numbers}
-use Rattle.snapshot_vec.proofs.entries.Numbers as S
-use Rattle.snapshot_vec.proofs.entries.Numbers.Laws as S′
+use Rattle.parts.specs.declared.entries.Numbers.{Numbers}
+use Rattle.parts.proofs.entries.Numbers as S
+use Rattle.parts.proofs.entries.Numbers.Laws as S′
 use Rattle.actions.specs.View.{shown, lentAt}
 use Rattle.actions.specs.declared.view.Actions.{Actions}
 use Rattle.actions.proofs.Shapes.{B, Sl, v}

@@ -2,8 +2,8 @@
 use contract.Running.{givenOf}
 use denote.Struct.Laws as LL
 use denote.Triple.Table.{cited}
-use Rattle.snapshot_vec.proofs.entries.Numbers as S
-use Rattle.snapshot_vec.proofs.entries.Numbers.Laws as S′
+use Rattle.parts.proofs.entries.Numbers as S
+use Rattle.parts.proofs.entries.Numbers.Laws as S′
 use Rattle.actions.specs.View.{lentAt}
 use Rattle.actions.proofs.Walking.{Cited}
 use Rattle.actions.proofs.Thin.{Of-slice, slice-found, thin-meets}

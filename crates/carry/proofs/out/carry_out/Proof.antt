@@ -8,8 +8,8 @@ use Rattle.rules.specs.Contract.{memoryNow}
 use Rattle.roots.specs.Trail.{walkOf}
 use Rattle.roots.proofs.TrailLaws.{walk-length}
 use Rattle.plans.specs.Plans.{finishOf}
-use Rattle.carry.specs.Ready.{Ready}
-use Rattle.carry.proofs.ReadyLaws.{ready-less, ready-puts, puts-three, sound-after}
+use Rattle.parts.specs.Ready.{Ready}
+use Rattle.rewrites.proofs.ReadyLaws.{ready-less, ready-puts, puts-three, sound-after}
 use Rattle.carry.proofs.out.carry_out.Statement.{statement}
 use Rattle.carry.proofs.out.carry_out.Tie as tie
 
@@ -86,12 +86,6 @@ same-length : tie.Need-same-length
 same-length c =
     let m = end c in (m .finish .kept .0) ∙ (second m .rewrite2 .kept .0) ∙ (first (second m) .rewrite .kept .0)
 
-same-length-2 : tie.Need-same-length-2
-same-length-2 c = end c .finish .kept .1 .0
-
-same-length-3 : tie.Need-same-length-3
-same-length-3 c = end c .finish .kept .1 .1 .0
-
 same-length-4 : tie.Need-same-length-4
 same-length-4 c =
     let m = end c in
@@ -108,4 +102,5 @@ returns c =
     (l .rewrite2 .ensures) (m .finish .ensures)
 
 pub carry-out-spec : {M : Type 1} → statement M
-carry-out-spec = tie.close (tie.spec rewrite-requires rewrite-requires-2 finish-requires same-length same-length-2 same-length-3 same-length-4 returns)
+carry-out-spec = tie.close (tie.spec rewrite-requires rewrite-requires-2 finish-requires same-length (λ c. end c .finish .kept .1 .0)
+    (λ c. end c .finish .kept .1 .1 .0) same-length-4 returns)

@@ -7,8 +7,8 @@ use Rattle.rules.specs.Write.{Memory, memory, crown}
 use Rattle.rules.specs.Contract.{memoryNow}
 use Rattle.plans.specs.declared.verdict.Finish.{Finish}
 use Rattle.plans.specs.Plans.{finishOf, InsideEnd}
-use Rattle.carry.specs.Ready.{Ready}
-use Rattle.carry.proofs.ReadyLaws.{ready-row, ready-entry, put-none, put-one}
+use Rattle.parts.specs.Ready.{Ready}
+use Rattle.rewrites.proofs.ReadyLaws.{ready-row, ready-entry, put-none, put-one}
 use Rattle.carry.proofs.out.finish.Statement.{statement}
 use Rattle.carry.proofs.out.finish.Tie as tie
 
@@ -17,12 +17,6 @@ mem e = let a = e .args in memoryNow (a .parents) (a .crowns) (a .amounts) (a .l
 
 enum-told : tie.Need-enum-told
 enum-told c = search needs
-
-enum-known-end : tie.Need-enum-known-end
-enum-known-end c = search needs
-
-enum-known-end-2 : tie.Need-enum-known-end-2
-enum-known-end-2 c = search needs
 
 crown-requires : tie.Need-crown-requires
 crown-requires c κs =
@@ -67,30 +61,8 @@ united c = c .before .before .before .before .before .before .before .before
 returns-3 : tie.Need-returns-3
 returns-3 c = let k = united c in rw (k .before .before .before .before .before .before .end2 .given .1) (k .redirect-root .ensures)
 
-same-length : tie.Need-same-length
-same-length c = search needs
-
-same-length-2 : tie.Need-same-length-2
-same-length-2 c = crowned c .crown .kept .1 .0
-
-same-length-3 : tie.Need-same-length-3
-same-length-3 c = crowned c .crown .kept .1 .1 .0
-
-same-length-4 : tie.Need-same-length-4
-same-length-4 c = crowned c .crown .kept .1 .1 .1 .0
-
-same-length-5 : tie.Need-same-length-5
-same-length-5 c = united c .redirect-root .kept .0
-
-same-length-6 : tie.Need-same-length-6
-same-length-6 c = united c .redirect-root .kept .1 .0
-
-same-length-7 : tie.Need-same-length-7
-same-length-7 c = united c .redirect-root .kept .1 .1 .0
-
-same-length-8 : tie.Need-same-length-8
-same-length-8 c = united c .redirect-root .kept .1 .1 .1 .0
-
 pub finish-spec : {M : Type 1} → statement M
-finish-spec = tie.close (tie.spec enum-told enum-known-end crown-requires enum-known-end-2 redirect-root-requires returns same-length same-length-2
-    same-length-3 same-length-4 returns-2 same-length-5 same-length-6 same-length-7 same-length-8 returns-3)
+finish-spec = tie.close (tie.spec enum-told (search needs) crown-requires (search needs) redirect-root-requires returns (search needs)
+    (λ c. crowned c .crown .kept .1 .0) (λ c. crowned c .crown .kept .1 .1 .0) (λ c. crowned c .crown .kept .1 .1 .1 .0) returns-2
+    (λ c. united c .redirect-root .kept .0) (λ c. united c .redirect-root .kept .1 .0) (λ c. united c .redirect-root .kept .1 .1 .0)
+    (λ c. united c .redirect-root .kept .1 .1 .1 .0) returns-3)

@@ -3,8 +3,8 @@ use native.Mathlib.Omega.{arith}
 use denote.Ref.{now}
 use Rattle.rules.specs.Write.{Memory, memory, redirect, crown}
 use Rattle.rules.specs.Contract.{memoryNow}
-use Rattle.carry.specs.Ready.{Ready}
-use Rattle.carry.proofs.ReadyLaws.{ready-row, ready-entry, ready-put, put-two}
+use Rattle.parts.specs.Ready.{Ready}
+use Rattle.rewrites.proofs.ReadyLaws.{ready-row, ready-entry, ready-put, put-two}
 use Rattle.carry.proofs.out.redirect_root.Statement.{statement}
 use Rattle.carry.proofs.out.redirect_root.Tie as tie
 
@@ -46,15 +46,6 @@ crown-requires c κs =
 abbrev end : tie.After-slice-known9 → tie.After-crown
 end c = c .before .before .before .before .before .before
 
-same-length : tie.Need-same-length
-same-length c = first (end c) .redirect .kept .0
-
-same-length-2 : tie.Need-same-length-2
-same-length-2 c = end c .crown .kept .1 .0
-
-same-length-3 : tie.Need-same-length-3
-same-length-3 c = end c .crown .kept .1 .1 .0
-
 same-length-4 : tie.Need-same-length-4
 same-length-4 c = (end c .crown .kept .1 .1 .1 .0) ∙ (first (end c) .redirect .kept .1 .1 .1 .0)
 
@@ -68,4 +59,5 @@ returns c =
     (k .redirect .ensures) (l .crown .ensures)
 
 pub redirect-root-spec : {M : Type 1} → statement M
-redirect-root-spec = tie.close (tie.spec redirect-requires crown-requires same-length same-length-2 same-length-3 same-length-4 returns)
+redirect-root-spec = tie.close (tie.spec redirect-requires crown-requires (λ c. first (end c) .redirect .kept .0) (λ c. end c .crown .kept .1 .0)
+    (λ c. end c .crown .kept .1 .1 .0) same-length-4 returns)

@@ -2,7 +2,7 @@ use denote.Ref.{now}
 use Rattle.rules.specs.Lent.{Rows, Log}
 use Rattle.rules.specs.Contract.{rowsNow}
 use mathlib.Core.Path.{sym, _∙_}
-use Rattle.decide.proofs.DoesLaws.{bad-does}
+use Rattle.decisions.proofs.DoesLaws.{bad-does}
 use borrow.Author.Needs.{needs}
 use Rattle.decide.proofs.any.decide.Statement.{statement}
 use Rattle.decide.proofs.any.decide.Tie as tie
@@ -12,12 +12,6 @@ rows e = let a = e .args in rowsNow (a .parents) (a .crowns) (a .amounts)
 
 abbrev log : tie.Start → Log
 log e = now (e .args .log)
-
-bad-state-requires : tie.Need-bad-state-requires
-bad-state-requires c κs = search needs
-
-refused-requires : tie.Need-refused-requires
-refused-requires c κs = search needs
 
 decide-good-requires : tie.Need-decide-good-requires
 decide-good-requires c κs = sym (c .before .bad-state .ensures) ∙ c .if1 .left
@@ -33,4 +27,4 @@ returns-2 : tie.Need-returns-2
 returns-2 c = c .decide-good .ensures
 
 pub decide-spec : {M : Type 1} → statement M
-decide-spec = tie.close (tie.spec bad-state-requires refused-requires returns decide-good-requires returns-2)
+decide-spec = tie.close (tie.spec (λ c κs. search needs) (λ c κs. search needs) returns decide-good-requires returns-2)

@@ -1,8 +1,8 @@
 use denote.Ref.{now}
 use Rattle.rules.specs.Lent.{Rows, Log}
 use Rattle.rules.specs.Contract.{rowsNow}
-use Rattle.decide.proofs.FitLaws.{good}
-use Rattle.decide.proofs.DoesLaws.{rest-does}
+use Rattle.decisions.proofs.FitLaws.{good}
+use Rattle.decisions.proofs.DoesLaws.{rest-does}
 use borrow.Author.Needs.{needs}
 use Rattle.decide.proofs.any.decide_good.Statement.{statement}
 use Rattle.decide.proofs.any.decide_good.Tie as tie
@@ -12,27 +12,6 @@ rows e = let a = e .args in rowsNow (a .parents) (a .crowns) (a .amounts)
 
 abbrev log : tie.Start → Log
 log e = now (e .args .log)
-
-enum-known-sorted : tie.Need-enum-known-sorted
-enum-known-sorted c = search needs
-
-enum-known-sorted-2 : tie.Need-enum-known-sorted-2
-enum-known-sorted-2 c = search needs
-
-enum-known-sorted-3 : tie.Need-enum-known-sorted-3
-enum-known-sorted-3 c = search needs
-
-enum-known-sorted-4 : tie.Need-enum-known-sorted-4
-enum-known-sorted-4 c = search needs
-
-enum-known-sorted-5 : tie.Need-enum-known-sorted-5
-enum-known-sorted-5 c = search needs
-
-sort-requires : tie.Need-sort-requires
-sort-requires c κs = search needs
-
-still-requires : tie.Need-still-requires
-still-requires c κs = search needs
 
 near-walk-requires : tie.Need-near-walk-requires
 near-walk-requires c κs = c .before .before .before .before .before .before .before .before .pre
@@ -77,5 +56,5 @@ returns-5 c =
     (rest-does (rows e) (log e) (a .head) (a .last) (a .sought) _ (e .pre) _ (c .before .on-head .ensures))
 
 pub decide-good-spec : {M : Type 1} → statement M
-decide-good-spec = tie.close (tie.spec sort-requires enum-known-sorted near-walk-requires enum-known-sorted-2 new-key-requires enum-known-sorted-3 try-probe-requires
-    enum-known-sorted-4 roll-back-requires enum-known-sorted-5 on-head-requires still-requires returns returns-2 returns-3 returns-4 returns-5)
+decide-good-spec = tie.close (tie.spec (λ c κs. search needs) (search needs) near-walk-requires (search needs) new-key-requires (search needs) try-probe-requires
+    (search needs) roll-back-requires (search needs) on-head-requires (λ c κs. search needs) returns returns-2 returns-3 returns-4 returns-5)

@@ -27,7 +27,19 @@ returns-3 c =
     let e = start k in
     is-latest (state e) (e .args .token) (k .mark-at .result) (k .before .before .if1 .left) (k .mark-at .ensures) (c .if2 .left)
 
+shared-slice-read-if1 : tie.Need-shared-slice-read-if1
+shared-slice-read-if1 c = search needs
+
+shared-slice-read-mark-at : tie.Need-shared-slice-read-mark-at
+shared-slice-read-mark-at c = search needs
+
+cast-mark-at : tie.Need-cast-mark-at
+cast-mark-at c = search needs
+
+sub-mark-at : tie.Need-sub-mark-at
+sub-mark-at c = search needs
+
 pub latest-spec : {M : Type 1} → statement M
 latest-spec =
     tie.close
-    (tie.spec (search needs) returns (search needs) (search needs) (search needs) (λ c κs. search needs) returns-2 returns-3)
+    (tie.spec shared-slice-read-if1 returns shared-slice-read-mark-at cast-mark-at sub-mark-at (λ c κs. search needs) returns-2 returns-3)

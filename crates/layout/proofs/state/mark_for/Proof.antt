@@ -10,21 +10,6 @@ use Rattle.layout.proofs.state.mark_for.Tie as tie
 abbrev state : tie.Start → State
 state e = stateOf (e .args .numbers .now) (e .args .serials .now)
 
-enum-known-call : tie.Need-enum-known-call
-enum-known-call c = search needs
-
-enum-known-call-2 : tie.Need-enum-known-call-2
-enum-known-call-2 c = search needs
-
-enum-known-call-3 : tie.Need-enum-known-call-3
-enum-known-call-3 c = search needs
-
-enum-known-call-4 : tie.Need-enum-known-call-4
-enum-known-call-4 c = search needs
-
-enum-known-call-5 : tie.Need-enum-known-call-5
-enum-known-call-5 c = search needs
-
 closing-mark-requires : tie.Need-closing-mark-requires
 closing-mark-requires c κs = c .before .before .before .before .before .pre
 
@@ -59,5 +44,5 @@ returns-6 : tie.Need-returns-6
 returns-6 c = let e = c .before .before .before in no-mark (state e) (e .args .call) (names-none (state e) (e .args .call) (c .match .keys6))
 
 pub mark-for-spec : {M : Type 1} → statement M
-mark-for-spec = tie.close (tie.spec enum-known-call closing-mark-requires enum-known-call-2 closing-mark-requires-2 enum-known-call-3 asked-mark-requires
-    enum-known-call-4 asked-mark-requires-2 enum-known-call-5 asked-mark-requires-3 returns returns-2 returns-3 returns-4 returns-5 returns-6)
+mark-for-spec = tie.close (tie.spec (search needs) closing-mark-requires (search needs) closing-mark-requires-2 (search needs) asked-mark-requires (search needs)
+    asked-mark-requires-2 (search needs) asked-mark-requires-3 returns returns-2 returns-3 returns-4 returns-5 returns-6)

@@ -48,8 +48,20 @@ returns-2 c =
     let none : l .left ≡ 0 = omega arith in
     ap (seek (state e) (e .args .token)) (sym none) ∙ l .inv .1
 
+shared-slice-read-left : tie.Need-shared-slice-read-left Inv-loop μ-loop
+shared-slice-read-left c = search needs
+
+cast-left : tie.Need-cast-left Inv-loop μ-loop
+cast-left c = search needs
+
+sub-left : tie.Need-sub-left Inv-loop μ-loop
+sub-left c = search needs
+
+loop-less : tie.Need-loop-less Inv-loop μ-loop
+loop-less c = search needs
+
 pub seek-spec : {M : Type 1} → statement M
 seek-spec =
     tie.close
-    (tie.spec Inv-loop μ-loop (search needs) (search needs) loop-holds (search needs) (λ c κs. search needs) returns
-    (search needs) loop-again returns-2)
+    (tie.spec Inv-loop μ-loop shared-slice-read-left cast-left loop-holds sub-left (λ c κs. search needs) returns loop-less loop-again
+    returns-2)

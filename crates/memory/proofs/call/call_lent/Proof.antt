@@ -2,7 +2,7 @@ use borrow.Author.Needs.{needs}
 use Rattle.rules.specs.Contract.{tableNow}
 use Rattle.rules.specs.Lent.{Table}
 use Rattle.rules.specs.Refusal.{Sizes, sizes}
-use Rattle.memory.proofs.CutLaws.{Cut, cut-parents, cut-crowns, cut-amounts, cut-log, call-handed-back}
+use Rattle.arrays.proofs.CutLaws.{Cut, cut-parents, cut-crowns, cut-amounts, cut-log, call-handed-back}
 use Rattle.memory.proofs.call.call_lent.Statement.{statement}
 use Rattle.memory.proofs.call.call_lent.Tie as tie
 
@@ -18,18 +18,6 @@ lengths k = sizes (k .before .before .before .lent .result) (k .before .before .
 cut : (k : tie.After-lent4) → Cut (start k .args .lengths) (whole k) (lengths k)
 cut k = record { parents = k .before .before .before .lent .ensures; crowns = k .before .before .lent2 .ensures; amounts = k .before .lent3 .ensures; log = k .lent4 .ensures }
 
-same-length : tie.Need-same-length
-same-length c = search needs
-
-same-length-2 : tie.Need-same-length-2
-same-length-2 c = search needs
-
-same-length-3 : tie.Need-same-length-3
-same-length-3 c = search needs
-
-same-length-4 : tie.Need-same-length-4
-same-length-4 c = search needs
-
 returns : tie.Need-returns
 returns c =
     let m = c .before .before .before .before .before .before .before .before .before .before in
@@ -41,6 +29,7 @@ returns c =
 pub call-lent-spec : {M : Type 1} → statement M
 call-lent-spec =
     tie.close
-    (tie.spec (λ c κs. tt) (search needs) (λ c κs. tt) (search needs) (λ c κs. tt) (search needs) (λ c κs. tt) (search needs) (search needs) (λ c. cut-parents (cut (c .before))) (search needs)
-    (λ c. cut-crowns (cut (c .before .before))) (search needs) (λ c. cut-amounts (cut (c .before .before .before))) (search needs) (λ c. cut-log (cut (c .before .before .before .before)))
-    (λ c κs. tt) same-length same-length-2 same-length-3 same-length-4 returns)
+    (tie.spec (λ c κs. tt) (search needs) (λ c κs. tt) (search needs) (λ c κs. tt) (search needs) (λ c κs. tt) (search needs) (search needs)
+    (λ c. cut-parents (cut (c .before))) (search needs) (λ c. cut-crowns (cut (c .before .before))) (search needs)
+    (λ c. cut-amounts (cut (c .before .before .before))) (search needs) (λ c. cut-log (cut (c .before .before .before .before))) (λ c κs. tt)
+    (search needs) (search needs) (search needs) (search needs) returns)

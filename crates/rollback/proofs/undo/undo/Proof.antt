@@ -53,15 +53,6 @@ loop-again c =
     (omega (arith, k)) (d .entry-at .result) (d .entry-at .ensures)
     (record { parents = r .reverse .last .0; crowns = r .reverse .last .1 .0; amounts = r .reverse .last .1 .1 .0 }) (r .reverse .ensures)
 
-same-length : tie.Need-same-length Inv-loop μ-loop
-same-length c = c .before .loop .inv .as-long .parents
-
-same-length-2 : tie.Need-same-length-2 Inv-loop μ-loop
-same-length-2 c = c .before .loop .inv .as-long .crowns
-
-same-length-3 : tie.Need-same-length-3 Inv-loop μ-loop
-same-length-3 c = c .before .loop .inv .as-long .amounts
-
 returns : tie.Need-returns Inv-loop μ-loop
 returns c =
     let l = c .before .loop in
@@ -72,5 +63,6 @@ returns c =
 pub undo-spec : {M : Type 1} → statement M
 undo-spec =
     tie.close
-    (tie.spec Inv-loop μ-loop (search needs) loop-holds (search needs) (search needs) entry-at-requires reverse-requires (search needs) loop-again
-    same-length same-length-2 same-length-3 returns)
+    (tie.spec Inv-loop μ-loop (search needs) loop-holds (search needs) (search needs) entry-at-requires reverse-requires (search needs)
+    loop-again (λ c. c .before .loop .inv .as-long .parents) (λ c. c .before .loop .inv .as-long .crowns)
+    (λ c. c .before .loop .inv .as-long .amounts) returns)

@@ -18,6 +18,21 @@ returns-3 c =
     let a = e .args in
     near-next (a .parents .now) (a .count) (a .key) (e .pre .1) (c .before .before .if1 .left) (c .before .if2 .left)
 
+mul-next : tie.Need-mul-next
+mul-next c = search needs
+
+shared-slice-read-next : tie.Need-shared-slice-read-next
+shared-slice-read-next c = search needs
+
+cast-after : tie.Need-cast-after
+cast-after c = search needs
+
+mul-t7 : tie.Need-mul-t7
+mul-t7 c = search needs
+
+shared-slice-read-t9 : tie.Need-shared-slice-read-t9
+shared-slice-read-t9 c = search needs
+
 pub near-root-spec : {M : Type 1} → statement M
 near-root-spec =
-    tie.close (tie.spec (search needs) (search needs) returns returns-2 (search needs) (search needs) (search needs) returns-3)
+    tie.close (tie.spec mul-next shared-slice-read-next returns returns-2 cast-after mul-t7 shared-slice-read-t9 returns-3)

@@ -49,8 +49,32 @@ returns-3 c =
     let a = k .before .args in
     (trace-out (a .parents .now) (k .loop .nodes) (a .count) (a .key) (k .loop .at) (k .loop .steps) (k .loop .inv .0) (k .loop .inv .1) (k .loop .inv .2) (omega arith), omega arith)
 
+loop-holds : tie.Need-loop-holds Inv-loop μ-loop
+loop-holds c = search needs
+
+mul-nodes : tie.Need-mul-nodes Inv-loop μ-loop
+mul-nodes c = search needs
+
+array-write-nodes : tie.Need-array-write-nodes Inv-loop μ-loop
+array-write-nodes c = search needs
+
+cast-parent : tie.Need-cast-parent Inv-loop μ-loop
+cast-parent c = search needs
+
+mul-parent : tie.Need-mul-parent Inv-loop μ-loop
+mul-parent c = search needs
+
+shared-slice-read-parent : tie.Need-shared-slice-read-parent Inv-loop μ-loop
+shared-slice-read-parent c = search needs
+
+add-steps : tie.Need-add-steps Inv-loop μ-loop
+add-steps c = search needs
+
+loop-less : tie.Need-loop-less Inv-loop μ-loop
+loop-less c = search needs
+
 pub trace-spec : {M : Type 1} → statement M
 trace-spec =
     tie.close
-    (tie.spec Inv-loop μ-loop (search needs) (search needs) (search needs) (search needs) (search needs) (search needs) returns returns-2
-    (search needs) (search needs) loop-again returns-3)
+    (tie.spec Inv-loop μ-loop loop-holds mul-nodes array-write-nodes cast-parent mul-parent shared-slice-read-parent returns returns-2
+    add-steps loop-less loop-again returns-3)

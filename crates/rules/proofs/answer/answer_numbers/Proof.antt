@@ -3,9 +3,6 @@ use Rattle.rules.proofs.AnswerLaws.{fields}
 use Rattle.rules.proofs.answer.answer_numbers.Statement.{statement}
 use Rattle.rules.proofs.answer.answer_numbers.Tie as tie
 
-number-of-requires : tie.Need-number-of-requires
-number-of-requires c κs = search needs
-
 cast-whose : tie.Need-cast-whose
 cast-whose c = search needs
 
@@ -34,4 +31,4 @@ returns c =
 
 pub answer-numbers-spec : {M : Type 1} → statement M
 answer-numbers-spec =
-    tie.close (tie.spec number-of-requires cast-whose cast-no cast-key cast-steps cast-yes cast-from cast-to returns)
+    tie.close (tie.spec (λ c κs. search needs) cast-whose cast-no cast-key cast-steps cast-yes cast-from cast-to returns)

@@ -26,12 +26,6 @@ mul-amounts c = search needs
 slice-write-amounts : tie.Need-slice-write-amounts
 slice-write-amounts c = search needs
 
-same-length : tie.Need-same-length
-same-length c = c .before .before .put-crown .kept .0
-
-same-length-2 : tie.Need-same-length-2
-same-length-2 c = search needs
-
 same-length-3 : tie.Need-same-length-3
 same-length-3 c = c .before .before .before .before .before .before .log-row .kept .1 .1 .1 .0
 
@@ -45,4 +39,5 @@ returns c =
 pub crown-spec : {M : Type 1} → statement M
 crown-spec =
     tie.close
-    (tie.spec log-row-requires put-crown-requires mul-amounts slice-write-amounts same-length same-length-2 same-length-3 returns)
+    (tie.spec log-row-requires put-crown-requires mul-amounts slice-write-amounts (λ c. c .before .before .put-crown .kept .0) (search needs)
+    same-length-3 returns)

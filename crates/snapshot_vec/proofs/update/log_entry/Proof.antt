@@ -13,9 +13,6 @@ put-entry-requires c κs = c .before .before .before .pre (c .before .if1 .left)
 add-result : tie.Need-add-result
 add-result c = let h = c .before .before .before .before .before .before .pre (c .before .before .before .before .if1 .left) in omega arith
 
-same-length : tie.Need-same-length
-same-length c = c .before .before .put-entry .kept .0
-
 returns-2 : tie.Need-returns-2
 returns-2 c =
     λ rows.
@@ -24,4 +21,4 @@ returns-2 c =
     logged-open (a .entry) rows (now (a .log)) (k .put-entry .last .0) (a .opened) (a .used) (k .before .before .if1 .left) (k .put-entry .ensures)
 
 pub log-entry-spec : {M : Type 1} → statement M
-log-entry-spec = tie.close (tie.spec returns put-entry-requires add-result same-length returns-2)
+log-entry-spec = tie.close (tie.spec returns put-entry-requires add-result (λ c. c .before .before .put-entry .kept .0) returns-2)

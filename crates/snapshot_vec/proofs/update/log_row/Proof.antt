@@ -19,9 +19,6 @@ row-at-requires c κs = c .before .before .before .before .pre .0
 log-entry-requires : tie.Need-log-entry-requires
 log-entry-requires c κs = c .before .before .before .before .before .before .pre .1
 
-same-length : tie.Need-same-length
-same-length c = c .before .before .log-entry .kept .0
-
 returns : tie.Need-returns
 returns c =
     let l = c .before .before in
@@ -30,4 +27,4 @@ returns c =
     logged-row (mem e) (e .args .i) (k .row-at .result) {m′ = after l} (k .row-at .ensures) (l .log-entry .ensures (mem e .rows))
 
 pub log-row-spec : {M : Type 1} → statement M
-log-row-spec = tie.close (tie.spec row-at-requires log-entry-requires same-length returns)
+log-row-spec = tie.close (tie.spec row-at-requires log-entry-requires (λ c. c .before .before .log-entry .kept .0) returns)

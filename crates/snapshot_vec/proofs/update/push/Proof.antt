@@ -24,12 +24,6 @@ log-entry-requires c κs = c .before .before .before .before .before .pre .1
 put-row-requires : tie.Need-put-row-requires
 put-row-requires c κs = c .before .before .before .before .before .before .before .before .before .before .before .pre .0
 
-same-length : tie.Need-same-length
-same-length c = c .before .before .before .before .before .before .put-row .kept .0
-
-same-length-2 : tie.Need-same-length-2
-same-length-2 c = c .before .before .before .before .before .before .put-row .kept .1 .0
-
 same-length-3 : tie.Need-same-length-3
 same-length-3 c = c .before .before .before .before .before .before .put-row .kept .1 .1 .0
 
@@ -44,4 +38,5 @@ returns c =
     push-is (mem e) (e .args .key) (e .args .row) (after k) (rows-after l) (k .log-entry .ensures (mem e .rows)) (l .put-row .ensures)
 
 pub push-spec : {M : Type 1} → statement M
-push-spec = tie.close (tie.spec log-entry-requires put-row-requires same-length same-length-2 same-length-3 same-length-4 returns)
+push-spec = tie.close (tie.spec log-entry-requires put-row-requires (λ c. c .before .before .before .before .before .before .put-row .kept .0)
+    (λ c. c .before .before .before .before .before .before .put-row .kept .1 .0) same-length-3 same-length-4 returns)

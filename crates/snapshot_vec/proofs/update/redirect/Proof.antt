@@ -23,12 +23,6 @@ mul-parents c = search needs
 slice-write-parents : tie.Need-slice-write-parents
 slice-write-parents c = search needs
 
-same-length : tie.Need-same-length
-same-length c = search needs
-
-same-length-2 : tie.Need-same-length-2
-same-length-2 c = c .before .before .log-row .kept .1 .1 .1 .0
-
 returns : tie.Need-returns
 returns c =
     let k = c .before .before in
@@ -36,4 +30,4 @@ returns c =
     redirected (mem e) (e .args .key) (after k) (k .log-row .ensures) (e .args .root)
 
 pub redirect-spec : {M : Type 1} → statement M
-redirect-spec = tie.close (tie.spec log-row-requires mul-parents slice-write-parents same-length same-length-2 returns)
+redirect-spec = tie.close (tie.spec log-row-requires mul-parents slice-write-parents (search needs) (λ c. c .before .before .log-row .kept .1 .1 .1 .0) returns)

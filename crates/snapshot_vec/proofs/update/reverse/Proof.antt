@@ -5,23 +5,11 @@ use Rattle.snapshot_vec.proofs.update.reverse.Tie as tie
 enum-told : tie.Need-enum-told
 enum-told c = search needs
 
-enum-known-entry : tie.Need-enum-known-entry
-enum-known-entry c = search needs
-
 put-row-requires : tie.Need-put-row-requires
 put-row-requires c κs = rw (c .before .before .before .before .entry .given .1) at (c .before .before .before .before .before .before .before .before .before .pre)
 
-enum-told-2 : tie.Need-enum-told-2
-enum-told-2 c = search needs
-
 returns : tie.Need-returns
 returns c = rw (c .enum-told .given .1)
-
-same-length : tie.Need-same-length
-same-length c = c .before .before .before .before .before .before .put-row .kept .0
-
-same-length-2 : tie.Need-same-length-2
-same-length-2 c = c .before .before .before .before .before .before .put-row .kept .1 .0
 
 same-length-3 : tie.Need-same-length-3
 same-length-3 c = c .before .before .before .before .before .before .put-row .kept .1 .1 .0
@@ -35,5 +23,6 @@ returns-3 c = rw (c .enum-told2 .given .1)
 pub reverse-spec : {M : Type 1} → statement M
 reverse-spec =
     tie.close
-    (tie.spec enum-told enum-known-entry put-row-requires enum-told-2 returns same-length same-length-2 same-length-3 returns-2
-    returns-3)
+    (tie.spec enum-told (search needs) put-row-requires (search needs) returns
+    (λ c. c .before .before .before .before .before .before .put-row .kept .0)
+    (λ c. c .before .before .before .before .before .before .put-row .kept .1 .0) same-length-3 returns-2 returns-3)

@@ -2,9 +2,9 @@ use denote.Ref.{now}
 use Rattle.rules.specs.Lent.{Rows, Log}
 use Rattle.rules.specs.Contract.{rowsNow}
 use mathlib.Core.Path.{_≡_, subst}
-use Rattle.decide.specs.declared.any.Decision.{Decision}
-use Rattle.decide.specs.Decided.{Decided}
-use Rattle.table.proofs.EndLaws.{near-carried}
+use Rattle.decisions.specs.declared.decision.Decision.{Decision}
+use Rattle.decisions.specs.Decided.{Decided}
+use Rattle.writes.proofs.EndLaws.{near-carried}
 use borrow.Author.Needs.{needs}
 use Rattle.table.proofs.call.call.Statement.{statement}
 use Rattle.table.proofs.call.call.Tie as tie
@@ -14,15 +14,6 @@ rows e = let a = e .args in rowsNow (a .parents) (a .crowns) (a .amounts)
 
 abbrev log : tie.Start → Log
 log e = now (e .args .log)
-
-enum-known-decision : tie.Need-enum-known-decision
-enum-known-decision c = search needs
-
-enum-known-decision-2 : tie.Need-enum-known-decision-2
-enum-known-decision-2 c = search needs
-
-decide-requires : tie.Need-decide-requires
-decide-requires c κs = search needs
 
 -- what was decided, with the decision known
 decided : (k : tie.After-decide) (d : Decision) → k .decide .result ≡ d
@@ -44,18 +35,6 @@ ended c = c .before .before .before .before .before .before .before .before
 abbrev walked : tie.After-slice-known12 → tie.After-far
 walked c = c .before .before .before .before .before .before .before .before
 
-same-length : tie.Need-same-length
-same-length c = ended c .end .kept .0
-
-same-length-2 : tie.Need-same-length-2
-same-length-2 c = ended c .end .kept .1 .0
-
-same-length-3 : tie.Need-same-length-3
-same-length-3 c = ended c .end .kept .1 .1 .0
-
-same-length-4 : tie.Need-same-length-4
-same-length-4 c = ended c .end .kept .1 .1 .1 .0
-
 returns : tie.Need-returns
 returns c =
     let k = ended c in
@@ -65,18 +44,6 @@ returns c =
     near-carried (rows e) (log e) (a .head) (a .last) (a .sought) (a .call) (n .decision .given .0 .0) (decided (n .before .before) _ (n .decision .given .1) .0) _ _ (k .end .result)
     (k .end .ensures)
 
-same-length-5 : tie.Need-same-length-5
-same-length-5 c = walked c .far .kept .0
-
-same-length-6 : tie.Need-same-length-6
-same-length-6 c = walked c .far .kept .1 .0
-
-same-length-7 : tie.Need-same-length-7
-same-length-7 c = walked c .far .kept .1 .1 .0
-
-same-length-8 : tie.Need-same-length-8
-same-length-8 c = walked c .far .kept .1 .1 .1 .0
-
 returns-2 : tie.Need-returns-2
 returns-2 c =
     let k = walked c in
@@ -85,5 +52,7 @@ returns-2 c =
     rw (← decided (n .before .before) _ (n .decision2 .given .1) .2) (k .far .ensures (a .last) (a .sought))
 
 pub call-spec : {M : Type 1} → statement M
-call-spec = tie.close (tie.spec decide-requires enum-known-decision end-requires enum-known-decision-2 far-requires same-length same-length-2 same-length-3 same-length-4
-    returns same-length-5 same-length-6 same-length-7 same-length-8 returns-2)
+call-spec = tie.close (tie.spec (λ c κs. search needs) (search needs) end-requires (search needs) far-requires (λ c. ended c .end .kept .0)
+    (λ c. ended c .end .kept .1 .0) (λ c. ended c .end .kept .1 .1 .0) (λ c. ended c .end .kept .1 .1 .1 .0) returns
+    (λ c. walked c .far .kept .0) (λ c. walked c .far .kept .1 .0) (λ c. walked c .far .kept .1 .1 .0) (λ c. walked c .far .kept .1 .1 .1 .0)
+    returns-2)

@@ -3,8 +3,8 @@ use Rattle.rules.specs.Lent.{Rows, Log}
 use Rattle.rules.specs.Contract.{rowsNow}
 use mathlib.Core.Path.{sym, _∙_}
 use Rattle.undo_log.specs.HeadCalls.{headCall}
-use Rattle.decide.proofs.FitLaws.{good}
-use Rattle.decide.proofs.DoesLaws.{bad-does, rest-carried}
+use Rattle.decisions.proofs.FitLaws.{good}
+use Rattle.decisions.proofs.DoesLaws.{bad-does, rest-carried}
 use borrow.Author.Needs.{needs}
 use Rattle.table.proofs.call.rest.Statement.{statement}
 use Rattle.table.proofs.call.rest.Tie as tie
@@ -14,12 +14,6 @@ rows e = let a = e .args in rowsNow (a .parents) (a .crowns) (a .amounts)
 
 abbrev log : tie.Start → Log
 log e = now (e .args .log)
-
-bad-state-requires : tie.Need-bad-state-requires
-bad-state-requires c κs = search needs
-
-refusal-requires : tie.Need-refusal-requires
-refusal-requires c κs = search needs
 
 on-head-requires : tie.Need-on-head-requires
 on-head-requires c κs =
@@ -41,4 +35,4 @@ returns-2 c =
     (c .on-head .ensures)
 
 pub rest-spec : {M : Type 1} → statement M
-rest-spec = tie.close (tie.spec bad-state-requires refusal-requires returns on-head-requires returns-2)
+rest-spec = tie.close (tie.spec (λ c κs. search needs) (λ c κs. search needs) returns on-head-requires returns-2)

@@ -5,7 +5,7 @@ use Rattle.undo_log.proofs.marks.unfit.Statement.{statement}
 use Rattle.undo_log.proofs.marks.unfit.Tie as tie
 
 returns : tie.Need-returns
-returns c = rw (lt-ltb _ _ (c .if1 .taken))
+returns c = let a = c .before .before .before .args in rw (lt-ltb (a .head .used) (a .mark .«log_len») (c .if1 .taken))
 
 returns-2 : tie.Need-returns-2
 returns-2 c = let a = c .before .before .before .before .before .args in rw (le-ltb (a .head .used) (a .mark .«log_len») (omega arith))

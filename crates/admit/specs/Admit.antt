@@ -1,0 +1,29 @@
+-- What the exported functions return, by the lengths of what is lent and the calls.
+use mathlib.Core.Bool.{cond, not, _&&_}
+use mathlib.Core.List.{List}
+use Prim.Native.Nat.{ℕ, _*_}
+use lib.ListN.{length}
+use lib.Dec.{eqb, ltb}
+use Rattle.layout.specs.State.{NUMBERS, SERIALS}
+use Rattle.coding.specs.Coding.{Listed, unlisted, calls}
+
+-- What is returned.
+abbrev pub CARRIED-OUT : ℕ
+CARRIED-OUT = 0
+
+abbrev pub NO-STATE : ℕ
+NO-STATE = 1
+
+abbrev pub NO-CALL : ℕ
+NO-CALL = 2
+
+abbrev pub NO-ROOM : ℕ
+NO-ROOM = 3
+
+abbrev pub hearing : Listed → ℕ → ℕ
+hearing unlisted answers = NO-CALL
+hearing (calls cs) answers = cond (ltb answers (9 * length cs)) NO-ROOM CARRIED-OUT
+
+-- "Tested in this order": a state's numbers, the calls, room for the answers.
+unfoldable pub admission : ℕ → ℕ → Listed → ℕ → ℕ
+admission numbers serials l answers = cond (not (eqb numbers NUMBERS && eqb serials SERIALS)) NO-STATE (hearing l answers)

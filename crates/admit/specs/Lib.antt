@@ -1,0 +1,2 @@
+-- What is tested before a list of calls is run.
+pub mod Admit

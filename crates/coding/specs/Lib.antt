@@ -1,0 +1,3 @@
+-- The numbers of calls and answers, and what they stand for.
+pub mod Coding
+pub mod Answers

@@ -1,0 +1,18 @@
+use plans::verdict::OneCall;
+use plans::verdict::TwoCall;
+use undo_log::tokens::HeadCall;
+
+// A call that walks, with the keys that it walks from.
+pub enum WalkCall {
+    One(u32, OneCall),
+    Two(u32, u32, TwoCall),
+}
+
+// Any call, by what it touches.
+pub enum Sorted {
+    Walk(WalkCall),
+    New(u32, u64),
+    TryProbe(u32),
+    Rollback(u64),
+    Rest(HeadCall),
+}

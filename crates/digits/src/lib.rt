@@ -1,0 +1,2 @@
+// Bytes and decimal numbers put into a buffer. Nothing here writes a file.
+pub mod put;

@@ -1,0 +1,2 @@
+-- What the proofs use, call by call.
+pub mod DirectLaws

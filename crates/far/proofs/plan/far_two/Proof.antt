@@ -1,0 +1,127 @@
+use denote.Ref.{now}
+use Rattle.rules.specs.Lent.{Rows, Log}
+use Rattle.rules.specs.Contract.{rowsNow}
+use Prim.Native.Nat.{_<_}
+use native.Mathlib.Omega.{arith}
+use borrow.Author.Tests.{not-true, not-false}
+use Rattle.parts.proofs.BoundLaws.{even-row}
+use Rattle.roots.specs.Trail.{rootOf, compressed}
+use Rattle.roots.proofs.TrailLaws.{trail-root}
+use Rattle.decisions.proofs.FitLaws.{good-used, good-even}
+use Rattle.far.proofs.FarLaws.{two-first-lost, two-second-lost, two-planned}
+use borrow.Author.Needs.{needs}
+use Rattle.far.proofs.plan.far_two.Statement.{statement}
+use Rattle.far.proofs.plan.far_two.Tie as tie
+
+abbrev rows : tie.Start → Rows
+rows e = let a = e .args in rowsNow (a .parents) (a .crowns) (a .amounts)
+
+abbrev log : tie.Start → Log
+log e = now (e .args .log)
+
+trace-requires : tie.Need-trace-requires
+trace-requires c κs = let e = c .before .before .before .before in good-even (rows e) (log e) (e .args .head) (e .pre .0) .parents
+
+trace-after-requires : tie.Need-trace-after-requires
+trace-after-requires c κs =
+    let t = c .before in
+    let e = t .before .before .before .before .before in (
+      good-even (rows e) (log e) (e .args .head) (e .pre .0) .parents,
+      (not-false _ (c .if1 .left), (t .trace .ensures .0, t .trace .ensures .1)),
+    )
+
+returns : tie.Need-returns
+returns c =
+    let t = c .before .before in
+    let e = t .before .before .before .before .before in
+    let a = e .args in
+    two-first-lost (rows e) (log e) (a .head) (e .pre .0) (a .a) (a .b) (e .pre .1 .0) (e .pre .1 .1) (a .call) (t .trace .result) (t .trace .ensures .0)
+    (t .trace .ensures .1) (c .idle .result) (not-true _ (c .before .if1 .taken))
+
+returns-2 : tie.Need-returns-2
+returns-2 c =
+    let t = c .before .before .before in
+    let e = t .before .before .before .before .before in
+    let a = e .args in
+    let u = c .before .trace-after in
+    two-second-lost (rows e) (log e) (a .head) (e .pre .0) (a .a) (a .b) (e .pre .1 .0) (e .pre .1 .1) (a .call) (t .trace .result) (t .trace .ensures .0)
+    (t .trace .ensures .1) (not-false _ (c .before .before .if1 .left)) (u .result) (u .ensures .0) (not-true _ (c .if2 .taken))
+
+mul-root-a : tie.Need-mul-root-a
+mul-root-a c = let s = c .before .before .before .trace .ensures .1 in omega (arith, s .steps)
+
+element-copy-out-root-a : tie.Need-element-copy-out-root-a
+element-copy-out-root-a c = let s = c .before .before .before .trace .ensures .1 in omega (arith, s .steps, s .size)
+
+mul-root-b : tie.Need-mul-root-b
+mul-root-b c = let s = c .before .before .trace-after .ensures .1 in omega (arith, s .steps)
+
+element-copy-out-root-b : tie.Need-element-copy-out-root-b
+element-copy-out-root-b c = let s = c .before .before .trace-after .ensures .1 in omega (arith, s .steps, s .size)
+
+add-two-plan : tie.Need-add-two-plan
+add-two-plan c = omega (arith, c .before .before .before .before .before .trace .ensures .1 .steps, c .before .before .before .trace-after .ensures .1 .steps)
+
+cast-two-plan : tie.Need-cast-two-plan
+cast-two-plan c = omega (arith, c .before .before .before .before .before .trace .ensures .1 .steps, c .before .before .before .trace-after .ensures .1 .steps)
+
+-- the roots are rows
+root-a : (c : tie.Else2) → let e = c .before .before .before .before .before .before .before .before in rootOf (c .before .before .before .trace .result) < e .args .head .count
+root-a c =
+    let t = c .before .before .before in
+    let e = t .before .before .before .before .before in
+    let x = t .trace in
+    trail-root (rows e .parents) (e .args .head .count) (x .result) (e .args .a) (x .ensures .0) (not-false _ (c .before .before .if1 .left)) (x .ensures .1)
+
+root-b : (c : tie.Else2) → let e = c .before .before .before .before .before .before .before .before in rootOf (c .before .trace-after .result) < e .args .head .count
+root-b c =
+    let e = c .before .before .before .before .before .before .before .before in
+    let u = c .before .trace-after in
+    trail-root (compressed (c .before .before .before .trace .result) (rows e .parents)) (e .args .head .count) (u .result) (e .args .b) (u .ensures .0)
+    (not-false _ (c .if2 .left)) (u .ensures .1)
+
+two-plan-requires : tie.Need-two-plan-requires
+two-plan-requires c κs =
+    let k = c .before .before in
+    let e = k .before .before .before .before .before .before .before .before in
+    let even = good-even (rows e) (log e) (e .args .head) (e .pre .0) in (
+      even-row (rows e) (e .args .head .count) (rootOf (k .before .before .before .trace .result)) even (root-a k),
+      even-row (rows e) (e .args .head .count) (rootOf (k .before .trace-after .result)) even (root-b k),
+    )
+
+add-fitted : tie.Need-add-fitted
+add-fitted c =
+    omega (
+      arith,
+      c .before .before .before .before .before .before .before .before .trace .ensures .1 .steps,
+      c .before .before .before .before .before .before .trace-after .ensures .1 .steps,
+      c .before .rewrites .ensures,
+      c .rewrites2 .ensures,
+    )
+
+fitted-requires : tie.Need-fitted-requires
+fitted-requires c κs =
+    let t = c .before .before .before .before .before .before .before .before in
+    let e = t .before .before .before .before .before in (
+      good-used (rows e) (log e) (e .args .head) (e .pre .0),
+      omega (arith, t .trace .ensures .1 .steps, c .before .before .before .before .before .before .trace-after .ensures .1 .steps, c .before .rewrites .ensures, c .rewrites2 .ensures),
+    )
+
+returns-3 : tie.Need-returns-3
+returns-3 c =
+    let k = c .before .before .before .before .before .before in
+    let t = k .before .before .before in
+    let e = t .before .before .before .before .before in
+    let a = e .args in
+    let x = t .trace in
+    let u = k .before .trace-after in
+    let p = c .before .before .before .two-plan in
+    two-planned (rows e) (log e) (a .head) (e .pre .0) (a .a) (a .b) (e .pre .1 .0) (e .pre .1 .1) (a .call) (x .result) (x .ensures .0) (x .ensures .1)
+    (not-false _ (k .before .before .if1 .left)) (u .result) (u .ensures .0) (not-false _ (k .if2 .left)) (u .ensures .1) (p .result) (c .fitted .result)
+    (p .ensures .0) (p .ensures .1 (a .head .count) (root-a k) (root-b k)) (c .before .before .rewrites .result) (c .before .rewrites2 .result)
+    (c .before .before .rewrites .ensures) (c .before .rewrites2 .ensures) (c .fitted .ensures)
+
+pub far-two-spec : {M : Type 1} → statement M
+far-two-spec = tie.close (tie.spec trace-requires (λ c κs. search needs) returns trace-after-requires returns-2 mul-root-a element-copy-out-root-a mul-root-b
+    element-copy-out-root-b add-two-plan cast-two-plan two-plan-requires (λ c κs. search needs) (λ c κs. search needs) add-fitted
+    fitted-requires returns-3)

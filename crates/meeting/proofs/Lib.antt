@@ -1,0 +1,2 @@
+-- What the proof of the second walk uses.
+pub mod MeetingLaws

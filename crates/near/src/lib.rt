@@ -1,0 +1,2 @@
+// Calls whose walks have at most one redirect, decided over `&` parts.
+pub mod calls;

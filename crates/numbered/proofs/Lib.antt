@@ -1,0 +1,2 @@
+-- What the proof uses.
+pub mod OneLaws

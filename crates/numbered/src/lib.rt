@@ -1,0 +1,2 @@
+// A call on a table whose state is lent as numbers.
+pub mod one;

@@ -1,0 +1,2 @@
+// Every command but a call, carried out on the lent memory.
+pub mod other;

@@ -1,0 +1,3 @@
+// The lines of the several replies, printed over what is lent.
+pub mod head;
+pub mod parts;

@@ -1,0 +1,101 @@
+use mathlib.Core.Path.{refl, ap}
+use Prim.Native.Nat.{_-_, _<_}
+use native.Mathlib.Omega.{arith}
+use denote.Ref.{now}
+use borrow.Author.Needs.{needs}
+use borrow.Author.Tests.{ne-eqb}
+use Rattle.rules.specs.Lent.{Rows, Log}
+use Rattle.rules.specs.Write.{Memory, memory}
+use Rattle.rules.specs.Contract.{rowsNow}
+use Rattle.rewrites.proofs.LogLaws.{saves-shut, saves-idle, Logging, logging-starts, logging-goes-on, node-in, entry-in, logged-all}
+use Rattle.rewrites.proofs.walk.log_walk.Statement.{statement}
+use Rattle.rewrites.proofs.walk.log_walk.Tie as tie
+
+abbrev Inv-loop : tie.InvT-loop
+Inv-loop parents crowns amounts log₀ count opened used nodes left₀ more₀ log left more =
+    Logging (record { parents = parents; crowns = crowns; amounts = amounts }) log₀ opened used nodes left₀ log left more
+
+abbrev μ-loop : tie.MeasureT-loop
+μ-loop parents crowns amounts log₀ count opened used nodes left₀ more₀ log left more = left
+
+abbrev rows : tie.Start Inv-loop μ-loop → Rows
+rows e = let a = e .args in rowsNow (a .parents) (a .crowns) (a .amounts)
+
+abbrev log : tie.Start Inv-loop μ-loop → Log
+log e = now (e .args .log)
+
+abbrev mem : tie.Start Inv-loop μ-loop → Memory
+mem e = memory (rows e) (log e) (e .args .opened) (e .args .used)
+
+returns : tie.Need-returns Inv-loop μ-loop
+returns c = saves-shut _ (mem (c .before .before .before .before .before)) (c .if1 .taken)
+
+returns-2 : tie.Need-returns-2 Inv-loop μ-loop
+returns-2 c = let e = c .before .before .before .before .before .before .before in saves-idle (e .args .trail) (mem e) (c .if2 .taken)
+
+sub-left : tie.Need-sub-left Inv-loop μ-loop
+sub-left c = search needs
+
+loop-holds : tie.Need-loop-holds Inv-loop μ-loop
+loop-holds c =
+    let e = c .before .before .before .before .before .before .before in
+    let s = e .pre .0 .short in
+    logging-starts (rows e) (log e) (e .args .opened) (e .args .used) (e .args .trail .nodes) (e .args .trail .steps - 1) (s .size)
+    (omega (arith, s .steps, c .if2 .left))
+
+sub-left-2 : tie.Need-sub-left-2 Inv-loop μ-loop
+sub-left-2 c = search needs
+
+mul-log-row : tie.Need-mul-log-row Inv-loop μ-loop
+mul-log-row c = search needs
+
+array-read-log-row : tie.Need-array-read-log-row Inv-loop μ-loop
+array-read-log-row c =
+    let s = c .before .before .before .before .before .before .before .before .before .before .pre .0 .short in
+    omega (arith, s .steps, s .size, c .before .before .loop .inv .least, c .before .loop-test .taken)
+
+log-row-requires : tie.Need-log-row-requires Inv-loop μ-loop
+log-row-requires c κs =
+    let t = c .before in
+    let l = t .before in
+    let f = l .before in
+    let n = f .before .before in
+    let e = n .before .before .before .before .before in
+    let a = e .args in
+    let pos : 0 < a .trail .steps = omega (arith, f .if2 .left) in (
+      node-in (rows e) (log e) (a .opened) (a .used) (a .count) (a .trail) (e .pre .0) (n .if1 .left) (e .pre .1) (a .trail .steps - 1) refl pos
+          _ (l .loop .left) (l .loop .more) (l .loop .inv) (t .loop-test .taken),
+      λ o. entry-in (rows e) (log e) (a .opened) (a .used) (a .count) (a .trail) (e .pre .0) (n .if1 .left) (e .pre .1) (a .trail .steps - 1) refl
+          pos _ (l .loop .left) (l .loop .more) (l .loop .inv) (t .loop-test .taken),
+    )
+
+loop-less : tie.Need-loop-less Inv-loop μ-loop
+loop-less c = search needs
+
+loop-again : tie.Need-loop-again Inv-loop μ-loop
+loop-again c =
+    let k = c .before .before in
+    let t = k .before .before in
+    let l = t .before in
+    let f = l .before in
+    let n = f .before .before in
+    let e = n .before .before .before .before .before in
+    let a = e .args in
+    let s = e .pre .0 .short in
+    let u = ap (λ (m : Memory). m .used) (k .log-row .ensures) in
+    logging-goes-on (rows e) (log e) (a .opened) (a .used) (a .trail .nodes) (a .trail .steps - 1) (s .size)
+    (omega (arith, s .steps, f .if2 .left)) _ (l .loop .left) (l .loop .more) (l .loop .inv) (t .loop-test .taken) _ _ (k .log-row .ensures)
+    (rw (ne-eqb (a .opened) 0 (n .if1 .left)) at u) (k .log-row .kept .1 .1 .1 .0)
+
+returns-3 : tie.Need-returns-3 Inv-loop μ-loop
+returns-3 c =
+    let l = c .before in
+    let f = l .before in
+    let e = f .before .before .before .before .before .before .before in
+    let a = e .args in
+    logged-all (rows e) (log e) (a .opened) (a .used) (a .trail) (a .trail .steps - 1) refl (omega (arith, f .if2 .left)) _ (l .loop .left)
+    (l .loop .more) (l .loop .inv) (omega (arith, c .loop-test .left))
+
+pub log-walk-spec : {M : Type 1} → statement M
+log-walk-spec = tie.close (tie.spec Inv-loop μ-loop returns returns-2 sub-left loop-holds sub-left-2 mul-log-row array-read-log-row log-row-requires loop-less
+    loop-again (λ c. c .before .loop .inv .kept) returns-3)

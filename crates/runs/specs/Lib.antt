@@ -1,0 +1,3 @@
+-- What calls that are carried out leave.
+pub mod Run
+pub mod Served

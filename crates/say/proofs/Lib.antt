@@ -1,0 +1,2 @@
+pub mod SayLaws
+pub mod Examples

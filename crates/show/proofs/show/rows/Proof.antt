@@ -1,0 +1,42 @@
+-- The invariant: so far the first `i` rows are printed. Assumes nothing.
+use mathlib.Core.Path.{_≡_}
+use Prim.Native.Nat.{ℕ, _-_, _≤_}
+use native.Mathlib.Omega.{arith}
+use borrow.Author.Needs.{needs}
+use lib.ListN.{length}
+use Rattle.rules.specs.Contract.{rowsNow}
+use Rattle.show.specs.Pieces.{Said}
+use Rattle.show.specs.Shown.{Pieces, each, rowPieces}
+use Rattle.show.proofs.PieceLaws.{none, one-more, all, then}
+use Rattle.show.proofs.show.rows.Statement.{statement}
+use Rattle.show.proofs.show.rows.Tie as tie
+
+abbrev Inv-loop : tie.InvT-loop
+Inv-loop out₀ at parents crowns amounts n end₀ i₀ bar out end i =
+    (length out ≡ length out₀)
+    × (i ≤ n)
+    × Said out₀ out at (each i (rowPieces (record { parents = parents; crowns = crowns; amounts = amounts }))) end
+
+abbrev μ-loop : tie.MeasureT-loop
+μ-loop out₀ at parents crowns amounts n end₀ i₀ bar out end i = n - i
+
+abbrev shown : tie.Start Inv-loop μ-loop → ℕ → Pieces
+shown e = let a = e .args in rowPieces (rowsNow (a .parents) (a .crowns) (a .amounts))
+
+loop-holds : tie.Need-loop-holds Inv-loop μ-loop
+loop-holds c = (search needs, search needs, none (shown (c .before .before .before .before)))
+
+loop-again : tie.Need-loop-again Inv-loop μ-loop
+loop-again c =
+    let k = c .before .before .before .before .before .before in
+    let h = k .before .before .before .before in
+    let loop = h .loop in
+    (search needs, search needs, one-more (loop .i) (shown (h .before .before .before .before .before)) (loop .inv .2) (then (k .word .ensures) (c .before .before .row-cells .ensures)))
+
+returns : tie.Need-returns Inv-loop μ-loop
+returns c =
+    let loop = c .before .loop in
+    all (loop .i) (c .before .before .before .before .before .before .args .n) (shown (c .before .before .before .before .before .before)) (omega arith) (loop .inv .2)
+
+pub rows-spec : {M : Type 1} → statement M
+rows-spec = tie.close (tie.spec Inv-loop μ-loop loop-holds (search needs) (λ c κs. search needs) (λ c κs. search needs) (search needs) (search needs) loop-again (search needs) returns)

@@ -1,6 +1,0 @@
-pub mod NumeralLaws
-pub mod LineLaws
-pub mod CommandLaws
-pub mod PrintLaws
-pub mod Examples
-pub mod Accepted

@@ -1,5 +1,0 @@
-pub mod Bytes
-pub mod Numeral
-pub mod Line
-pub mod Command
-pub mod Printed

@@ -1,0 +1,53 @@
+ghost use mathlib.Core.Bool.{false};
+ghost use mathlib.Core.Path.{_≡_};
+ghost use Rattle.rules.specs.Contract.{rowsNow, tableLent};
+ghost use Rattle.rules.specs.Refusal.{sizesOf, bad};
+ghost use Rattle.decisions.specs.Sorted.{walkCall, LiveKeys};
+ghost use Rattle.decisions.specs.Decided.{FarCarried};
+use decisions::sorted::WalkCall;
+use far::plan::far_plan;
+use plans::verdict::Verdict;
+use rules::answer::refusal;
+use rules::table::Head;
+use undo_log::tokens::Settled;
+
+// A call on live keys, whatever its walks: planned, and then rewritten.
+pub fn far(
+    parents: &mut [u32],
+    crowns: &mut [u32],
+    amounts: &mut [u64],
+    log: &mut [u32],
+    head: Head,
+    call: WalkCall,
+) -> Settled
+    requires { ⌜ bad (sizesOf (rowsNow parents crowns amounts) (now log)) head ≡ false ⌝ }
+    requires { ⌜ LiveKeys (head .count) call ⌝ }
+    ensures { let t = tableLent parents crowns amounts log in
+        λ r. ⌜ FarCarried (t .entry) (t .exit) head (walkCall call) r ⌝ }
+{
+    let plan = far_plan(parents, crowns, amounts, log, head, call);
+    let verdict = plan.verdict;
+    let first = plan.first;
+    let second = plan.second;
+    match verdict {
+        Verdict::Refused(no) => {
+            let answer = refusal(no);
+            Settled { answer, head }
+        }
+        Verdict::Planned(answer, finish) => {
+            let used = carry::out::carry_out(
+                parents,
+                crowns,
+                amounts,
+                log,
+                head.count,
+                head.open,
+                head.used,
+                first,
+                second,
+                finish,
+            );
+            decisions::todo::with_used(Settled { answer, head }, used)
+        }
+    }
+}
