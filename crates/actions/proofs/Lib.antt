@@ -1,6 +1,6 @@
 -- What the proofs of several functions use, and what a view shows.
-pub mod PartLaws
 pub mod Shapes
 pub mod Walking
 pub mod Thin
 pub mod ViewLaws
+pub mod Unique

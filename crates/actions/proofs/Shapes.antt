@@ -1,15 +1,12 @@
 -- What the walks over a view share: its type over the signature's lifetimes, with its laws; and a slice's type and machine value.
 -- Assumes nothing.
-use Prim.Native.Nat.{ℕ}
-use mathlib.Core.List.{List, [], _∷_}
-use lib.ListN.{length}
+use Rattle.kit.specs.Names.{List, [], _∷_, ℕ, length, RefT}
 use mir.Syntax.{named}
 use mir.Val.{Val}
 use base.Fml.{Lft, Fml}
 use contract.Lifetimes.{Lfts}
 use denote.RattleType.{RattleType}
 use denote.Builtin.{u32}
-use denote.Ref.{RefT}
 use denote.Signature.{namedLft}
 use denote.Slice.{sliceVal, ShrSlice}
 use denote.Struct.Declared.{Declared}

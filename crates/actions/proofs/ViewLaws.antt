@@ -1,11 +1,6 @@
 -- What a view shows: as many entries as its range has places, each the log's own, `Unknown` past them, and nothing where a call is
 -- refused. Assumes nothing.
-use mathlib.Core.Path.{_≡_, refl, ap, _∙_}
-use mathlib.Core.Bool.{Bool, true, false}
-use mathlib.Core.List.{List, [], _∷_}
-use Prim.Native.Nat.{ℕ, zero, suc, _+_, _-_, _*_, _<_, _≤_}
-use native.Mathlib.Omega.{arith}
-use lib.ListN.{length, getD, take, drop, length-drop}
+use Rattle.kit.specs.Names.{_≡_, refl, ap, _∙_, Bool, true, false, List, [], _∷_, ℕ, zero, suc, _+_, _-_, _*_, _<_, _≤_, length, getD, take, drop, length-drop, arith}
 use Rattle.rules.specs.declared.call.Answer.{Answer}
 use Rattle.rules.specs.declared.call.Call.the-variants.{Actions}
 use Rattle.rules.specs.declared.table.Sought.{Sought}
@@ -20,7 +15,8 @@ use Rattle.rules.specs.Tokens.{seek, unfit, asked, viewed, actionsView}
 use Rattle.rules.specs.Refusal.{outcome, sizesOf, badTable}
 use Rattle.rules.specs.Step.{call, step}
 use Rattle.rules.proofs.StateLaws.{bad-good}
-use Rattle.actions.specs.View.{seen, lentAt, actionOf}
+use Rattle.extract.specs.Numbers.{lentAt, actionOf}
+use Rattle.actions.specs.View.{seen}
 
 -- ---- a number of a part
 

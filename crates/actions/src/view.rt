@@ -2,7 +2,8 @@ ghost use mathlib.Core.Path.{_≡_};
 ghost use Rattle.rules.specs.Lent.{entryAt};
 ghost use Rattle.rules.specs.Tokens.{viewed};
 ghost use Rattle.rules.specs.Contract.{logLent};
-ghost use Rattle.actions.specs.View.{shown, countOf, lentAt};
+ghost use Rattle.extract.specs.Numbers.{lentAt};
+ghost use Rattle.actions.specs.View.{shown, countOf};
 use parts::entries::Numbers;
 use rules::numbers::ENTRY;
 use rules::table::UndoLog;
@@ -18,7 +19,7 @@ pub fn actions_between<'a>(log: &'a [u32], from: u32, to: u32) -> Actions<'a>
     ensures { let l = logLent log in λ r. ⌜ shown r ≡ viewed (l .entry) from to ⌝ }
 {
     Actions {
-        log: crate::core::part(log, from, to),
+        log: extract::log::part(log, from, to),
     }
 }
 
@@ -33,14 +34,14 @@ pub fn len<'a>(v: Actions<'a>) -> usize
 pub fn entry<'a>(v: Actions<'a>, i: usize) -> UndoLog
     ensures { λ r. ⌜ r ≡ entryAt (shown (v .entry)) i ⌝ }
 {
-    crate::core::entry_of(v.log, i)
+    extract::log::entry_of(v.log, i)
 }
 
 // The numbers of entry `i` of a view as they are lent, whatever its kind; 0 past its end.
 pub fn lent_entry<'a>(v: Actions<'a>, i: usize) -> Numbers
     ensures { λ r. ⌜ r ≡ lentAt (shown (v .entry)) i ⌝ }
 {
-    crate::core::lent_of(v.log, i)
+    extract::log::lent_of(v.log, i)
 }
 
 // The numbers of entry `i` of a part of a log, read through the view. Its parameters are a slice and numbers, so a caller needs no
@@ -55,5 +56,5 @@ pub fn lent_action_at<'a>(log: &'a [u32], from: u32, to: u32, i: usize) -> Numbe
 pub fn action_at<'a>(log: &'a [u32], from: u32, to: u32, i: usize) -> UndoLog
     ensures { let l = logLent log in λ r. ⌜ r ≡ entryAt (viewed (l .entry) from to) i ⌝ }
 {
-    crate::core::action_of(lent_action_at(log, from, to, i))
+    extract::log::action_of(lent_action_at(log, from, to, i))
 }

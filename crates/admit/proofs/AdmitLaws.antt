@@ -1,13 +1,5 @@
 -- Each end of the tests, and what is known of calls that pass them. Assumes nothing.
-use mathlib.Core.Path.{_≡_, refl, sym, ap, _∙_}
-use mathlib.Core.Bool.{true, false}
-use mathlib.Core.List.{List}
-use Prim.Native.Nat.{ℕ, _*_, _≤_, _<_}
-use native.Mathlib.Omega.{arith}
-use native.Mathlib.Decide.{decLt, ℕ-discrete}
-use lib.ListN.{length}
-use lib.Dec.{eqb}
-use borrow.Author.Tests.{lt-ltb, le-ltb, eq-eqb, ne-eqb}
+use Rattle.kit.specs.Names.{_≡_, refl, sym, ap, _∙_, true, false, List, ℕ, _*_, _≤_, _<_, length, eqb, arith, decLt, ℕ-discrete, lt-ltb, le-ltb, eq-eqb, ne-eqb}
 use Rattle.layout.specs.State.{NUMBERS, SERIALS}
 use Rattle.coding.specs.Coding.{Listed, unlisted, calls, isListed, callsIn}
 use Rattle.admit.specs.Admit.{CARRIED-OUT, NO-STATE, NO-CALL, NO-ROOM, hearing, admission}

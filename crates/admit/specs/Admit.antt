@@ -1,9 +1,5 @@
 -- What the exported functions return, by the lengths of what is lent and the calls.
-use mathlib.Core.Bool.{cond, not, _&&_}
-use mathlib.Core.List.{List}
-use Prim.Native.Nat.{ℕ, _*_}
-use lib.ListN.{length}
-use lib.Dec.{eqb, ltb}
+use Rattle.kit.specs.Names.{cond, not, _&&_, List, ℕ, _*_, length, eqb, ltb}
 use Rattle.layout.specs.State.{NUMBERS, SERIALS}
 use Rattle.coding.specs.Coding.{Listed, unlisted, calls}
 

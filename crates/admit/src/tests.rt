@@ -1,12 +1,11 @@
-ghost use mathlib.Core.Path.{_≡_};
-ghost use Prim.Native.Nat.{ℕ};
+ghost use Rattle.kit.specs.Names.{_≡_, ℕ};
 ghost use Rattle.coding.specs.Coding.{unlisted, callList};
 ghost use Rattle.admit.specs.Admit.{admission};
 use coding::coding::CALL;
 use coding::coding::all_calls;
 use layout::state::NUMBERS;
 use layout::state::SERIALS;
-use rules::answer::ANSWER;
+use makers::answer::ANSWER;
 
 // What is returned: each call's own number of refusal stands in its answer.
 pub const CARRIED_OUT: u32 = 0;

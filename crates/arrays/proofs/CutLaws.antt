@@ -1,12 +1,6 @@
 -- Laws of what is lent: cut off, and handed back. Assumes nothing.
-use mathlib.Core.Path.{_≡_, refl, ap, sym, _∙_}
-use mathlib.Core.List.{List, _++_}
-use Prim.Native.Nat.{ℕ, _≤_, min}
-use native.Mathlib.Decide.{decLe}
-use native.Mathlib.Nat.{min-eq-left, min-eq-right}
-use native.Mathlib.Omega.{arith}
-use lib.ListN.{length, take, drop, length-take, drop-of-length-le}
-use lib.Seq.{length-take-le, take-all, take-length, drop-length}
+use Rattle.kit.specs.Names.{_≡_, refl, ap, sym, _∙_, List, _++_, ℕ, _≤_, min, length, take, drop, length-take, drop-of-length-le, length-take-le, take-all, take-length, drop-length, arith, decLe}
+use Rattle.kit.specs.Names.{min-eq-left, min-eq-right}
 use Rattle.rules.specs.declared.call.Answered.{Answered}
 use Rattle.rules.specs.declared.call.Call.{Call}
 use Rattle.rules.specs.Lent.{Rows, Log, Table, table}

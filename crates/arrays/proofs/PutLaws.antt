@@ -1,11 +1,6 @@
 -- Laws of numbers that are put into a part. Assumes nothing.
-use mathlib.Core.Path.{_≡_, refl, sym}
-use mathlib.Core.List.{List, [], _∷_}
-use Prim.Native.Nat.{ℕ, suc, _+_, _-_, _≤_, _<_}
-use native.Mathlib.Numerals.{add-one}
-use native.Mathlib.Omega.{arith}
-use lib.ListN.{length, getD, take, drop, set, replicate, length-take, take-append-drop, drop-of-length-le}
-use lib.Seq.{drop-cons, set-out, sets, take-set-lt, drop-set-lt}
+use Rattle.kit.specs.Names.{_≡_, refl, sym, List, [], _∷_, ℕ, suc, _+_, _-_, _≤_, _<_, length, getD, take, drop, set, replicate, length-take, take-append-drop, drop-of-length-le, drop-cons}
+use Rattle.kit.specs.Names.{set-out, sets, take-set-lt, drop-set-lt, arith, add-one}
 use Rattle.arrays.specs.Room.{putLent, zeroed}
 
 -- past the end of a list nothing is written

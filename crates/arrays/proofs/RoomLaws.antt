@@ -1,9 +1,5 @@
 -- Laws of the room that there is. Assumes nothing.
-use mathlib.Core.Bool.{false}
-use mathlib.Core.Path.{_≡_}
-use Prim.Native.Nat.{_≤_, _<_}
-use borrow.Author.Tests.{le-leb, lt-leb}
-use lib.Dec.{leb}
+use Rattle.kit.specs.Names.{_≡_, false, _≤_, _<_, leb, le-leb, lt-leb}
 use Rattle.commands.specs.declared.command.Lengths.{Lengths}
 use Rattle.arrays.specs.Room.{roomFor}
 

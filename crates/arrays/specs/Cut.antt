@@ -1,8 +1,5 @@
 -- What a program lends of the memory that it has: of each part the first numbers, as many as CALLS.md's `table` and `lend` say.
-use mathlib.Core.Bool.{Bool, cond}
-use mathlib.Core.List.{_++_}
-use Prim.Native.Nat.{ℕ, _+_, _-_, _/_, max}
-use lib.ListN.{take, drop}
+use Rattle.kit.specs.Names.{Bool, cond, _++_, ℕ, _+_, _-_, _/_, max, take, drop}
 use Rattle.rules.specs.declared.call.Call.{Call}
 use Rattle.rules.specs.declared.table.State.{State}
 use Rattle.rules.specs.Numbers.{CROWN, ENTRY}

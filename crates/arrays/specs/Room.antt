@@ -1,10 +1,5 @@
 -- How much can be lent, and numbers put into a part.
-use mathlib.Core.Bool.{Bool, _&&_}
-use mathlib.Core.List.{List, _++_}
-use Prim.Native.Nat.{ℕ, _-_, _*_}
-use lib.ListN.{take, drop, replicate}
-use lib.Dec.{leb}
-use lib.Seq.{sets}
+use Rattle.kit.specs.Names.{Bool, _&&_, List, _++_, ℕ, _-_, _*_, take, drop, replicate, leb, sets}
 use Rattle.rules.specs.Numbers.{CROWN, ENTRY}
 use Rattle.commands.specs.declared.command.Lengths.{Lengths}
 

@@ -1,6 +1,5 @@
 // Numbers put into a part: each where it has a place, and no other.
-ghost use mathlib.Core.Path.{_≡_};
-ghost use mathlib.Core.List.{[], _∷_};
+ghost use Rattle.kit.specs.Names.{_≡_, [], _∷_};
 ghost use Rattle.arrays.specs.Room.{putLent, zeroed};
 
 // Puts numbers from place `at` of what is lent on.

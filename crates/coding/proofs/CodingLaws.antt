@@ -1,20 +1,11 @@
 -- What four numbers ask for, and what a list of them does. Assumes nothing.
-use mathlib.Core.Path.{_≡_, refl, sym, ap, _∙_}
-use mathlib.Core.Bool.{Bool, true, false, cond, _&&_}
-use mathlib.Core.List.{List, [], _∷_}
-use Prim.Native.Nat.{ℕ, zero, suc, _+_, _-_, _*_, _%_, _≤_, _<_}
-use native.Mathlib.Decide.{decLt}
-use native.Mathlib.Omega.{arith}
-use native.Mathlib.Numerals.{add-one}
-use lib.ListN.{length, getD, drop, length-drop}
-use lib.Seq.{drop-cons}
-use lib.Dec.{leb, ltb}
-use borrow.Author.Tests.{ltb-true, leb-true, lt-ltb}
+use Rattle.kit.specs.Names.{_≡_, refl, sym, ap, _∙_, Bool, true, false, cond, _&&_, List, [], _∷_, ℕ, zero, suc, _+_, _-_, _*_, _%_, _≤_, _<_, length, getD, drop, length-drop, leb, ltb, drop-cons}
+use Rattle.kit.specs.Names.{arith, decLt, add-one, ltb-true, leb-true, lt-ltb, le-ltb, le-leb, lt-leb}
 use Rattle.rules.specs.declared.call.Call.{Call}
 use Rattle.rules.specs.Numbers.{WORD}
 use Rattle.coding.specs.declared.coding.Form.{Form}
 use Rattle.coding.specs.declared.coding.Limits.{Limits}
-use Rattle.coding.specs.Coding.{SHORT, CODES, formOf, Formed, fits, Asked, nothing, asked, isAsked, askedOf, askedAt}
+use Rattle.coding.specs.Coding.{UNUSED, SHORT, LONG, CODES, formOf, Formed, fits, Asked, nothing, asked, isAsked, askedOf, askedAt}
 use Rattle.coding.specs.Coding.{Listed, unlisted, calls, then, callList, isListed, callsIn, callIn, callAt}
 
 -- ---- one call
@@ -47,6 +38,31 @@ module _ (code a b c : ℕ) where
     pub made : {r : Form} → Formed (formOf code a b c) a b c r → r .1 ≡ callIn (askedOf code a b c)
     unfolding askedOf
     made f = f .call (tests .1) ∙ rw (tests .0, tests .1)
+
+-- A call that names a token takes any, and no other number.
+token-limits : (k code a b c : ℕ) → code ≡ 10 + k → k < 5 → formOf code a b c .0 ≡ (LONG, UNUSED, UNUSED)
+token-limits zero code a b c e h = rw e
+token-limits (suc zero) code a b c e h = rw e
+token-limits (suc (suc zero)) code a b c e h = rw e
+token-limits (suc (suc (suc zero))) code a b c e h = rw e
+token-limits (suc (suc (suc (suc zero)))) code a b c e h = rw e
+token-limits (suc (suc (suc (suc (suc k))))) code a b c e h = absurd (omega arith)
+
+module _ (code a b c : ℕ) where
+  pub no-code : CODES ≤ code → false ≡ isAsked (askedOf code a b c)
+  no-code h = rw (is-asked code a b c, le-ltb code CODES h)
+
+  module _ (t : 10 ≤ code) (k : code < CODES) (h : a ≤ LONG) where
+    token-fits : leb b UNUSED && leb c UNUSED ≡ isAsked (askedOf code a b c)
+    token-fits =
+        let l = token-limits (code - 10) code a b c (omega arith) (omega arith) in
+        sym (is-asked code a b c ∙ rw (lt-ltb code CODES k, l, le-leb a LONG h))
+
+    pub more-than-token : UNUSED < b → false ≡ isAsked (askedOf code a b c)
+    more-than-token m = sym (ap (λ (x : Bool). x && leb c UNUSED) (lt-leb b UNUSED m)) ∙ token-fits
+
+    pub token-alone : b ≤ UNUSED → leb c UNUSED ≡ isAsked (askedOf code a b c)
+    token-alone m = sym (ap (λ (x : Bool). x && leb c UNUSED) (le-leb b UNUSED m)) ∙ token-fits
 
 -- What is none of the first n codes.
 abbrev Beyond : ℕ → ℕ → Type 0

@@ -1,10 +1,5 @@
 -- A call as four numbers: its code, then a, b and c.
-use mathlib.Core.Path.{_≡_}
-use mathlib.Core.Bool.{Bool, true, false, cond, _&&_}
-use mathlib.Core.List.{List, [], _∷_}
-use Prim.Native.Nat.{ℕ, _+_}
-use lib.ListN.{length, getD}
-use lib.Dec.{eqb, leb, ltb}
+use Rattle.kit.specs.Names.{_≡_, Bool, true, false, cond, _&&_, List, [], _∷_, ℕ, _+_, length, getD, eqb, leb, ltb}
 use Rattle.coding.specs.declared.coding.Form.{Form}
 use Rattle.coding.specs.declared.coding.Limits.{Limits}
 use Rattle.rules.specs.declared.call.Call.{Call}

@@ -1,8 +1,5 @@
-ghost use mathlib.Core.Path.{_≡_};
-ghost use mathlib.Core.Bool.{true};
-ghost use Prim.Native.Nat.{_+_, _≤_, _<_};
-ghost use lib.ListN.{length};
-ghost use Rattle.coding.specs.Coding.{CODES, formOf, Formed, isAsked, askedOf, askedAt, callIn, callAt, callList, isListed};
+ghost use Rattle.kit.specs.Names.{ℕ, _≡_, true, _+_, _≤_, _<_, length};
+ghost use Rattle.coding.specs.Coding.{LONG, CODES, formOf, Formed, isAsked, askedOf, askedAt, callIn, callAt, callList, isListed};
 use rules::call::Call;
 use rules::numbers::WORD;
 
@@ -11,6 +8,11 @@ pub const CALL: usize = 4;
 
 // How many codes there are.
 const CODES: u64 = 15;
+
+// Codes from here on name a token: first those that close a snapshot, then those that ask about one.
+pub const TOKENS: u64 = 10;
+
+pub const QUESTIONS: u64 = 12;
 
 // Keys and owners are below 2^32, amounts and tokens below 2^64; a number that a call does not have is 0.
 const UNUSED: u64 = 0;
@@ -50,12 +52,26 @@ fn form_of(code: u64, a: u64, b: u64, c: u64) -> Form
     }
 }
 
-// Whether four numbers are a call.
-fn is_call(code: u64, a: u64, b: u64, c: u64) -> bool
-    ensures { λ r. ⌜ r ≡ isAsked (askedOf code a b c) ⌝ }
+// Whether four numbers are a call whose code names a token, which may be any number.
+fn is_token_call(code: u64, b: u64, c: u64) -> bool
+    requires { ⌜ 10 ≤ code ⌝ }
+    ensures { λ r. ⌜ ((a : ℕ) → a ≤ LONG → r ≡ isAsked (askedOf code a b c)) ⌝ }
 {
     if code >= CODES {
         return false;
+    }
+    if b > UNUSED {
+        return false;
+    }
+    c <= UNUSED
+}
+
+// Whether four numbers are a call. Most name no token, and those are told first.
+fn is_call(code: u64, a: u64, b: u64, c: u64) -> bool
+    ensures { λ r. ⌜ r ≡ isAsked (askedOf code a b c) ⌝ }
+{
+    if code >= TOKENS {
+        return is_token_call(code, b, c);
     }
     let form = form_of(code, a, b, c);
     let most = form.0;

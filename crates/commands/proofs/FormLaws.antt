@@ -1,7 +1,5 @@
 -- What a `match` on the place of a form leaves. Assumes nothing.
-use mathlib.Core.Path.{_≡_}
-use Prim.Native.Nat.{ℕ, zero, suc, _+_, _≤_}
-use native.Mathlib.Omega.{arith}
+use Rattle.kit.specs.Names.{_≡_, ℕ, zero, suc, _+_, _≤_, arith}
 
 -- what a `match` on numbers from a first one on leaves
 abbrev Others : ℕ → ℕ → ℕ → Type 0

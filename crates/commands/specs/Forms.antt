@@ -1,9 +1,6 @@
 -- The commands that there are: CALLS.md, in its order.
-use mathlib.Core.Bool.{Bool, true, false, cond}
-use mathlib.Core.List.{List, [], _∷_, map}
-use Prim.Native.Nat.{ℕ, _-_, _^_}
+use Rattle.kit.specs.Names.{Bool, true, false, cond, List, [], _∷_, map, ℕ, _-_, _^_, getD}
 use Prim.Native.String.{String}
-use lib.ListN.{getD}
 use Rattle.rules.specs.Lent.{mark}
 use Rattle.rules.specs.declared.call.Call.the-variants.{New, Len, Find, Unioned, Join, Post, Probe, ProbeKey, TryProbe, Snapshot, Rollback, Commit, Keys, Actions, Changes}
 use Rattle.words.specs.Bytes.{bytes}

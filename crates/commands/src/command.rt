@@ -1,6 +1,5 @@
 // The commands, and which one a form of the table of specs/Forms.antt makes of its numbers: that table is CALLS.md's.
-ghost use mathlib.Core.Path.{_≡_};
-ghost use Prim.Native.Nat.{_<_};
+ghost use Rattle.kit.specs.Names.{_≡_, _<_};
 ghost use Rattle.commands.specs.Forms.{makesOf, rowNumbers};
 use rules::call::Call;
 use rules::table::Mark;

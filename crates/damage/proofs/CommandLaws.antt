@@ -1,13 +1,5 @@
 -- Laws of the commands: what the code leaves is what they say. Assumes nothing.
-use mathlib.Core.Bool.{true, false}
-use mathlib.Core.Path.{_≡_}
-use mathlib.Core.List.{List, [], _∷_}
-use Prim.Native.Nat.{ℕ, suc, _+_, _*_, _≤_, _<_, min}
-use native.Mathlib.Numerals.{add-one}
-use native.Mathlib.Omega.{arith}
-use borrow.Author.Tests.{lt-ltb, le-ltb, le-leb, lt-leb}
-use lib.ListN.{length, length-take}
-use lib.Dec.{ltb}
+use Rattle.kit.specs.Names.{_≡_, true, false, List, [], _∷_, ℕ, suc, _+_, _*_, _≤_, _<_, min, length, length-take, ltb, arith, add-one, lt-ltb, le-ltb, le-leb, lt-leb}
 use Rattle.rules.specs.declared.table.Mark.{Mark}
 use Rattle.rules.specs.declared.table.State.{State}
 use Rattle.rules.specs.Numbers.{CROWN, ENTRY, MAX-OPEN}

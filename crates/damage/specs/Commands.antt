@@ -1,8 +1,5 @@
 -- CALLS.md, command by command: what a line leaves of the memory, of the lengths that are lent and of the state, and its reply.
-use mathlib.Core.Bool.{Bool, cond}
-use Prim.Native.Nat.{ℕ, _+_, _*_}
-use lib.ListN.{set}
-use lib.Dec.{ltb}
+use Rattle.kit.specs.Names.{Bool, cond, ℕ, _+_, _*_, set, ltb}
 use Rattle.rules.specs.declared.table.Mark.{Mark}
 use Rattle.rules.specs.declared.table.Row.{Row}
 use Rattle.rules.specs.declared.table.State.{State}

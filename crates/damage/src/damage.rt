@@ -1,19 +1,17 @@
 // What the commands for tests do, and the lending of other lengths.
 ghost use mathlib.Core.Path.{_≡_};
-ghost use Rattle.rules.specs.Contract.{rowsLent, logLent, tableLent};
+ghost use Rattle.rules.specs.Contract.{rowsLent, logLent};
 ghost use Rattle.rules.specs.Lent.{Rows, Log, table, fresh};
 ghost use Rattle.commands.specs.declared.command.Command.the-variants as command;
 ghost use Rattle.arrays.specs.Cut.{left};
 ghost use Rattle.damage.specs.Commands.{lentLeft, changed};
-use arrays::lent::MOST_ENTRIES;
-use arrays::lent::MOST_ROWS;
-use arrays::lent::lent;
-use arrays::lent::most_entries;
-use arrays::lent::most_rows;
-use arrays::lent::nothing;
-use arrays::lent::room_for;
-use arrays::put::clear32;
-use arrays::put::clear64;
+use arrays::lengths::MOST_ENTRIES;
+use arrays::lengths::MOST_ROWS;
+use arrays::lengths::at_most;
+use arrays::lengths::most_entries;
+use arrays::lengths::most_rows;
+use arrays::lengths::nothing;
+use arrays::lengths::room_for;
 use arrays::put::put_amount;
 use arrays::put::put_numbers;
 use arrays::reply::Changed;
@@ -93,32 +91,6 @@ pub fn other_lengths(lengths: Lengths, state: State, new: Lengths) -> Lending
     }
 }
 
-// Lends other lengths; an error where there is no room.
-pub fn lend(
-    lengths: Lengths,
-    state: State,
-    parents: &mut [u32],
-    crowns: &mut [u32],
-    amounts: &mut [u64],
-    log: &mut [u32],
-    lending: Lending,
-) -> Changed
-    ensures { let t = tableLent parents crowns amounts log in λ r. ⌜ left r (t .exit) ≡ lentLeft lengths (t .entry state) lending ⌝ }
-{
-    if !lending.room {
-        return leaving(lengths, state, Reply::Error);
-    }
-    let old = lending.old;
-    let new = lending.new;
-    clear32(parents, old.parents, new.parents);
-    clear32(crowns, old.crowns, new.crowns);
-    clear64(amounts, old.amounts, new.amounts);
-    clear32(log, old.log, new.log);
-    let after = lending.state;
-    let reply = lending.reply;
-    leaving(new, after, reply)
-}
-
 // Puts a row's numbers where they are lent; an error where no part has a place for one.
 pub fn set_row(
     lengths: Lengths,
@@ -132,9 +104,9 @@ pub fn set_row(
     ensures { let rs = rowsLent parents crowns amounts in
         λ r. ⌜ ((l : Log) → left r (table (rs .exit) l) ≡ changed lengths (table (rs .entry) l state) (command.SetRow key row)) ⌝ }
 {
-    let a = lent(lengths.parents, parents.len());
-    let b = lent(lengths.crowns, crowns.len());
-    let c = lent(lengths.amounts, amounts.len());
+    let a = at_most(lengths.parents, parents.len());
+    let b = at_most(lengths.crowns, crowns.len());
+    let c = at_most(lengths.amounts, amounts.len());
     let reply = done(key < most_rows(a, b, c));
     let at = key as usize;
     let parent = [row.parent];
@@ -158,7 +130,7 @@ pub fn set_entry(
     ensures { let l = logLent log in
         λ r. ⌜ ((rs : Rows) → left r (table rs (l .exit)) ≡ changed lengths (table rs (l .entry) state) (command.SetEntry i kind key row)) ⌝ }
 {
-    let reply = done(i < most_entries(lent(lengths.log, log.len())));
+    let reply = done(i < most_entries(at_most(lengths.log, log.len())));
     let low = low_of(row.amount);
     let high = high_of(row.amount);
     let numbers = [kind, key, row.parent, row.rank, row.owner, low, high];

@@ -15,8 +15,8 @@ pub fn sort(call: Call) -> Sorted
         Call::New(owner, amount) => Sorted::New(owner, amount),
         Call::Len => Sorted::Rest(HeadCall::Len),
         Call::Find(key) => Sorted::Walk(WalkCall::One(key, OneCall::Find)),
-        Call::Unioned(a, b) => Sorted::Walk(WalkCall::Two(a, b, TwoCall::Unioned)),
-        Call::Join(a, b) => Sorted::Walk(WalkCall::Two(a, b, TwoCall::Join)),
+        Call::Unioned(a, b) => Sorted::Walk(WalkCall::Two(a, TwoCall::Unioned, b)),
+        Call::Join(a, b) => Sorted::Walk(WalkCall::Two(a, TwoCall::Join, b)),
         Call::Post(key, owner, amount) => Sorted::Walk(WalkCall::One(
             key,
             OneCall::Post(owner, amount),

@@ -1,12 +1,5 @@
 -- A verdict that fits the log: what it comes to is what the rules make of its plan, and there is room for it. Assumes nothing.
-use mathlib.Core.Path.{_≡_, refl, ap, sym, _∙_}
-use mathlib.Core.Bool.{Bool, true, false, cond}
-use mathlib.Core.List.{List, []}
-use Prim.Native.Nat.{ℕ, _+_, _-_, _*_, _≤_}
-use native.Mathlib.Omega.{arith}
-use lib.ListN.{length, length-append}
-use lib.Dec.{eqb, ltb}
-use borrow.Author.Tests.{le-ltb, ne-eqb, ltb-false}
+use Rattle.kit.specs.Names.{_≡_, refl, ap, sym, _∙_, Bool, true, false, cond, List, [], ℕ, _+_, _-_, _*_, _≤_, length, length-append, eqb, ltb, arith, le-ltb, ne-eqb, ltb-false}
 use Rattle.rules.specs.declared.call.Answer.{Answer}
 use Rattle.rules.specs.declared.table.Head.{Head}
 use Rattle.rules.specs.Numbers.{LOG-FULL, ENTRY}

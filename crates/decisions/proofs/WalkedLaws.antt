@@ -1,9 +1,5 @@
 -- The walks of a call, near or long: what the rules make of them. Assumes nothing.
-use mathlib.Core.Path.{_≡_, refl, ap, sym, _∙_}
-use mathlib.Core.List.{[]}
-use Prim.Native.Nat.{ℕ, zero, suc, _+_, _≤_, _<_}
-use native.Mathlib.Omega.{arith}
-use borrow.Author.Tests.{le-leb, lt-leb}
+use Rattle.kit.specs.Names.{_≡_, refl, ap, sym, _∙_, [], ℕ, zero, suc, _+_, _≤_, _<_, arith, le-leb, lt-leb}
 use Rattle.rules.specs.Numbers.{NO-KEY}
 use Rattle.rules.specs.Lent.{Rows, Table}
 use Rattle.rules.specs.Write.{writes}

@@ -1,9 +1,5 @@
 -- What is said of a call before and after it is written, for every state with the head, the last serial and the mark in question.
-use mathlib.Core.Path.{_≡_}
-use mathlib.Core.Bool.{false}
-use mathlib.Core.List.{List, _++_}
-use Prim.Native.Nat.{ℕ, _+_}
-use lib.ListN.{length}
+use Rattle.kit.specs.Names.{_≡_, false, List, _++_, ℕ, _+_, length}
 use Rattle.rules.specs.declared.call.Call.{Call}
 use Rattle.rules.specs.declared.table.Head.{Head}
 use Rattle.rules.specs.declared.table.Mark.{Mark}

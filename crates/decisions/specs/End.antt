@@ -1,6 +1,5 @@
 -- A decided call: what is written of it, what that leaves, and what it asks of the parts.
-use Prim.Native.Nat.{ℕ, _-_, _≤_}
-use lib.ListN.{length}
+use Rattle.kit.specs.Names.{ℕ, _-_, _≤_, length}
 use Rattle.rules.specs.declared.table.Head.{Head}
 use Rattle.rules.specs.Lent.{Rows, Log, row, head}
 use Rattle.rules.specs.Answer.{refusal}

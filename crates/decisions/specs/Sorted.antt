@@ -24,7 +24,7 @@ twoCall a b Join = call.Join a b
 
 abbrev pub walkCall : WalkCall → Call
 walkCall (One key c) = oneCall key c
-walkCall (Two a b c) = twoCall a b c
+walkCall (Two a c b) = twoCall a b c
 
 abbrev pub sortedCall : Sorted → Call
 sortedCall (Walk c) = walkCall c
@@ -36,4 +36,4 @@ sortedCall (Rest c) = headCall c
 -- The keys that a call walks from are below the count.
 abbrev pub LiveKeys : ℕ → WalkCall → Type 0
 LiveKeys count (One key c) = key < count
-LiveKeys count (Two a b c) = (a < count) × (b < count)
+LiveKeys count (Two a c b) = (a < count) × (b < count)

@@ -1,14 +1,7 @@
 -- Laws of what is printed. Assumes nothing.
-use mathlib.Core.List.{List, [], _∷_, _++_, append-assoc, append-nil}
-use mathlib.Core.Path.{_≡_, refl, ap, sym, _∙_}
-use Prim.Native.Nat.{ℕ, zero, suc, _+_, _*_, _-_, _/_, _%_, _^_, _≤_, _<_}
-use native.Mathlib.Omega.{arith}
-use native.Mathlib.Decide.{decLe}
-use native.Mathlib.Numerals.{add-one}
-use native.Mathlib.Nat.{pow-le-pow-right, pow-suc, mod-lt, mod-eq-of-lt, le-div-iff-mul-le, div-lt-iff-lt-mul}
-use borrow.Author.Tests.{lt-ltb, le-ltb}
-use lib.ListN.{length, getD, set, take, drop, length-append}
-use lib.Seq.{paste, paste-zero, set-split, append-snoc, take-length, take-paste, take-suc, drop-paste, length-paste, drop-drop}
+use Rattle.kit.specs.Names.{_≡_, refl, ap, sym, _∙_, List, [], _∷_, _++_, append-assoc, append-nil, ℕ, zero, suc, _+_, _*_, _-_, _/_, _%_, _^_, _≤_, _<_, length, getD, set, take, drop}
+use Rattle.kit.specs.Names.{length-append, paste, paste-zero, set-split, append-snoc, take-length, take-paste, take-suc, drop-paste, length-paste, drop-drop, arith, decLe, add-one}
+use Rattle.kit.specs.Names.{pow-le-pow-right, pow-suc, mod-lt, mod-eq-of-lt, le-div-iff-mul-le, div-lt-iff-lt-mul, lt-ltb, le-ltb}
 use Rattle.io.specs.Digits.{digits, Fewest, glyph}
 use Rattle.digits.specs.Printed.{Printed, spell, spellIn, listed}
 

@@ -1,11 +1,5 @@
 -- Numbers as CALLS.md prints them, and where a text stands in a buffer.
-use mathlib.Core.Bool.{cond}
-use mathlib.Core.List.{List, [], _∷_, _++_}
-use mathlib.Core.Path.{_≡_}
-use Prim.Native.Nat.{ℕ, zero, suc, _+_, _/_, _%_, _≤_, _<_}
-use lib.Dec.{ltb}
-use lib.ListN.{length}
-use lib.Seq.{paste}
+use Rattle.kit.specs.Names.{_≡_, cond, List, [], _∷_, _++_, ℕ, zero, suc, _+_, _/_, _%_, _≤_, _<_, length, ltb, paste}
 
 -- ---- numbers
 

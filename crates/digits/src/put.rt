@@ -1,7 +1,5 @@
 // Bytes and numbers, printed from place `at` of a buffer on. Each function answers the place after what it wrote.
-ghost use mathlib.Core.List.{[], _∷_};
-ghost use Prim.Native.Nat.{_+_, _*_, _≤_, _<_};
-ghost use lib.ListN.{length};
+ghost use Rattle.kit.specs.Names.{[], _∷_, _+_, _*_, _≤_, _<_, length};
 ghost use Rattle.digits.specs.Printed.{Printed, Wrote, spell, listed};
 
 // One byte.

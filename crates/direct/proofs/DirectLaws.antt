@@ -1,12 +1,5 @@
 -- A new key, a value without a walk and a rollback, refusal by refusal. Assumes nothing.
-use mathlib.Core.Path.{_≡_, ap, sym, _∙_}
-use mathlib.Core.Bool.{true, false, cond}
-use mathlib.Core.List.{List}
-use Prim.Native.Nat.{ℕ, _+_, _≤_, _<_}
-use native.Mathlib.Omega.{arith}
-use lib.ListN.{length}
-use lib.Dec.{eqb}
-use borrow.Author.Tests.{le-leb, lt-leb, eq-eqb, ne-eqb}
+use Rattle.kit.specs.Names.{_≡_, ap, sym, _∙_, true, false, cond, List, ℕ, _+_, _≤_, _<_, length, eqb, arith, le-leb, lt-leb, eq-eqb, ne-eqb}
 use Rattle.rules.specs.declared.call.Answer.{Answer}
 use Rattle.rules.specs.declared.call.Call.the-variants.{New, TryProbe, Rollback}
 use Rattle.rules.specs.declared.table.Head.{Head}

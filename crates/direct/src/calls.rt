@@ -1,7 +1,5 @@
-ghost use mathlib.Core.Bool.{false};
-ghost use mathlib.Core.Path.{_≡_};
-ghost use Prim.Native.Nat.{ℕ};
-ghost use Rattle.rules.specs.declared.call.Call.the-variants.{New, TryProbe, Rollback};
+ghost use Rattle.kit.specs.Names.{_≡_, false, ℕ};
+ghost use Rattle.rules.specs.declared.call.Call.the-variants.{New, TryProbe};
 ghost use Rattle.rules.specs.declared.table.Sought.{Sought};
 ghost use Rattle.rules.specs.Contract.{rowsNow, rowsLent, logLent};
 ghost use Rattle.rules.specs.Refusal.{sizesOf, bad};
@@ -10,20 +8,16 @@ use decisions::todo::End;
 use decisions::todo::Todo;
 use decisions::todo::refused;
 use decisions::todo::still;
-use parts::rows::row_at;
+use makers::answer::found;
+use makers::answer::held;
+use makers::answer::said;
+use makers::owner::owner_of;
 use plans::room::lacks;
-use rules::answer::found;
-use rules::answer::held;
-use rules::answer::refusal;
-use rules::answer::said;
-use rules::numbers::BROKEN_TABLE;
-use rules::numbers::DONE;
+use rows::rows::row_at;
 use rules::numbers::ENTRY;
 use rules::numbers::KEYS_FULL;
 use rules::numbers::LOG_FULL;
 use rules::numbers::NO_KEY;
-use rules::numbers::NOT_INNERMOST;
-use rules::owner::owner_of;
 use rules::table::Head;
 use rules::table::Sought;
 use rules::table::Value;
@@ -93,37 +87,4 @@ pub fn try_probe(
     }
     let answer = held(value_of(row));
     still(Settled { answer, head })
-}
-
-// All that was done since the innermost snapshot, taken back; the snapshot is closed.
-pub fn roll_back(
-    parents: &[u32],
-    crowns: &[u32],
-    amounts: &[u64],
-    log: &[u32],
-    head: Head,
-    sought: Sought,
-    token: u64,
-) -> Todo
-    requires { ⌜ bad (sizesOf (rowsNow parents crowns amounts) (now log)) head ≡ false ⌝ }
-    ensures { let rs = rowsLent parents crowns amounts in
-        let l = logLent log in
-        λ r. ⌜ ((last : ℕ) → Does (rs .entry) (l .entry) head last sought (Rollback token) r) ⌝ }
-{
-    match sought {
-        Sought::Missing => refused(NOT_INNERMOST, head),
-        Sought::Held(mark) => {
-            if rollback::rollback::broken(head, mark, log) {
-                return refused(BROKEN_TABLE, head);
-            }
-            let answer = refusal(DONE);
-            let after = rollback::rollback::rolled_back(head, mark);
-            let settled = Settled {
-                answer,
-                head: after,
-            };
-            let end = End::Undo(head.used);
-            Todo { settled, end }
-        }
-    }
 }

@@ -1,10 +1,5 @@
 -- Long walks: traced and judged, they come to what the rules make of them, and can be carried out. Assumes nothing.
-use mathlib.Core.Path.{_≡_, refl, ap, ap₂, sym, _∙_}
-use mathlib.Core.Bool.{true, false}
-use mathlib.Core.List.{List, [], _++_, append-nil}
-use Prim.Native.Nat.{ℕ, _+_, _-_, _<_}
-use native.Mathlib.Omega.{arith}
-use lib.ListN.{length, length-append}
+use Rattle.kit.specs.Names.{_≡_, refl, ap, ap₂, sym, _∙_, true, false, List, [], _++_, append-nil, ℕ, _+_, _-_, _<_, length, length-append, arith}
 use Rattle.rules.specs.declared.call.Call.{Call}
 use Rattle.rules.specs.declared.table.Head.{Head}
 use Rattle.rules.specs.declared.table.Mark.{Mark}

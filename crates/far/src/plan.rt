@@ -1,7 +1,5 @@
 // Calls with a walk of two redirects or more: traced, and judged before anything is written.
-ghost use mathlib.Core.Bool.{false};
-ghost use mathlib.Core.Path.{_≡_};
-ghost use Prim.Native.Nat.{_-_, _<_};
+ghost use Rattle.kit.specs.Names.{_≡_, false, _-_, _<_};
 ghost use Rattle.rules.specs.Contract.{rowsNow, rowsLent, logLent};
 ghost use Rattle.rules.specs.Refusal.{sizesOf, bad};
 ghost use Rattle.roots.specs.Trail.{Idle};
@@ -100,7 +98,7 @@ fn far_two(
     requires { ⌜ b < head .count ⌝ }
     ensures { let rs = rowsLent parents crowns amounts in
         let l = logLent log in
-        λ r. ⌜ FarPlanned (rs .entry) (l .entry) head (walkCall (Two a b call)) r ⌝ }
+        λ r. ⌜ FarPlanned (rs .entry) (l .entry) head (walkCall (Two a call b)) r ⌝ }
 {
     let first = trace(parents, head.count, a);
     if !first.found {
@@ -162,6 +160,6 @@ pub fn far_plan(
 {
     match call {
         WalkCall::One(key, what) => far_one(parents, crowns, amounts, log, head, key, what),
-        WalkCall::Two(a, b, what) => far_two(parents, crowns, amounts, log, head, a, b, what),
+        WalkCall::Two(a, what, b) => far_two(parents, crowns, amounts, log, head, a, b, what),
     }
 }

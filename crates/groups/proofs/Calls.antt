@@ -1,10 +1,5 @@
 -- Every call keeps what a table stands for, and is never answered BROKEN_TABLE or BAD_STATE; and a fresh table stands for nothing yet.
-use mathlib.Core.Path.{_≡_, refl}
-use mathlib.Core.Bool.{false}
-use mathlib.Core.List.{List, [], _∷_}
-use Prim.Native.Nat.{ℕ, zero-le}
-use native.Mathlib.Omega.{arith}
-use lib.Dec.{ltb}
+use Rattle.kit.specs.Names.{_≡_, refl, false, List, [], _∷_, ℕ, zero-le, ltb, arith}
 use Rattle.rules.specs.declared.call.Call.{Call}
 use Rattle.rules.specs.declared.call.Call.the-variants.{New, Len, Find, Unioned, Join, Post, Probe, ProbeKey, TryProbe, Snapshot, Rollback, Commit, Keys, Actions, Changes}
 use Rattle.rules.specs.Lent.{Rows, Log, Table, table, value, ownerOf, fresh, headOf}

@@ -1,9 +1,5 @@
 -- Rows that show groups: what a compression, a join, a post and a new key keep of that.
-use mathlib.Core.Path.{_≡_, refl, sym, ap, _∙_, subst, subst⁻¹, fun-ext}
-use mathlib.Core.Logic.{_≢_}
-use Prim.Native.Nat.{ℕ, suc, _≤_, _<_}
-use native.Mathlib.Nat.{le-refl, le-step, le-trans, le-of-eq, not-suc-le-zero}
-use native.Mathlib.Omega.{arith}
+use Rattle.kit.specs.Names.{_≡_, refl, sym, ap, _∙_, subst, subst⁻¹, fun-ext, _≢_, ℕ, suc, _≤_, _<_, arith, le-refl, le-step, le-trans, le-of-eq, not-suc-le-zero}
 use Rattle.rules.specs.declared.table.Value.{Value}
 use Rattle.rules.specs.declared.table.Row.{Row}
 use Rattle.rules.specs.Lent.{Rows, row, valueOf, rowAt}

@@ -1,10 +1,5 @@
 -- What it is that a call keeps; and what every call does that moves nothing but rows and log.
-use mathlib.Core.Path.{_≡_, refl}
-use mathlib.Core.Bool.{false}
-use mathlib.Core.List.{List, _∷_, _++_}
-use Prim.Native.Nat.{ℕ, _≤_}
-use lib.ListN.{length}
-use lib.Dec.{eqb}
+use Rattle.kit.specs.Names.{_≡_, refl, false, List, _∷_, _++_, ℕ, _≤_, length, eqb}
 use Rattle.rules.specs.declared.call.Call.{Call}
 use Rattle.rules.specs.declared.call.Answer.{Answer}
 use Rattle.rules.specs.Numbers.{DONE, BROKEN-TABLE, BAD-STATE, MAX-OPEN}

@@ -1,12 +1,6 @@
 -- The plan of each call on rows: carried out, it moves the groups as the groups' own step says, and it is never BROKEN_TABLE.
-use mathlib.Core.Path.{_≡_, refl, sym, ap, ap₂, _∙_, subst, subst⁻¹}
-use mathlib.Core.Logic.{_≢_, inl, inr}
-use mathlib.Core.Bool.{true, false, cond}
-use mathlib.Core.List.{List, [], _∷_, _++_}
-use Prim.Native.Nat.{ℕ, _+_, _≤_, _<_}
-use native.Mathlib.Omega.{arith}
-use lib.Dec.{eqb, ltb}
-use borrow.Author.Tests.{eqb-true, eqb-false, eq-eqb, ne-eqb, le-ltb}
+use Rattle.kit.specs.Names.{_≡_, refl, sym, ap, ap₂, _∙_, subst, subst⁻¹, true, false, cond, List, [], _∷_, _++_, _≢_, inl, inr, ℕ, _+_, _≤_, _<_, eqb, ltb, arith, eqb-true, eqb-false, eq-eqb}
+use Rattle.kit.specs.Names.{ne-eqb, le-ltb}
 use Rattle.rules.specs.declared.call.Call.{Call}
 use Rattle.rules.specs.declared.call.Call.the-variants.{Find, Unioned, Join, Post, Probe, ProbeKey, TryProbe}
 use Rattle.rules.specs.declared.call.Answer.{Answer}

@@ -1,13 +1,5 @@
 -- Calls on rows, and a new key: a table that stands for a history stands for it with the call.
-use mathlib.Core.Path.{_≡_, refl, sym, _∙_, subst}
-use mathlib.Core.Logic.{_≢_}
-use mathlib.Core.Bool.{false}
-use mathlib.Core.List.{_∷_}
-use Prim.Native.Nat.{ℕ, _+_, _-_, _≤_, _<_}
-use native.Mathlib.Omega.{arith}
-use lib.ListN.{length}
-use lib.Dec.{eqb, ltb, leb}
-use borrow.Author.Tests.{eqb-false, eq-eqb, ne-eqb, ltb-false, leb-false}
+use Rattle.kit.specs.Names.{_≡_, refl, sym, _∙_, subst, false, _∷_, _≢_, ℕ, _+_, _-_, _≤_, _<_, length, eqb, ltb, leb, arith, eqb-false, eq-eqb, ne-eqb, ltb-false, leb-false}
 use Rattle.rules.specs.declared.call.Call.{Call}
 use Rattle.rules.specs.declared.call.Call.the-variants.{New}
 use Rattle.rules.specs.declared.table.Value.{Value}

@@ -1,7 +1,5 @@
 -- The central law: the groups that a table shows are those of the deeds that survive of its history, alone and in their order.
-use mathlib.Core.Path.{_≡_, sym, ap, _∙_, subst}
-use mathlib.Core.List.{_∷_, _++_}
-use Prim.Native.Nat.{ℕ, _^_, _≤_, _<_}
+use Rattle.kit.specs.Names.{_≡_, sym, ap, _∙_, subst, _∷_, _++_, ℕ, _^_, _≤_, _<_}
 use Rattle.rules.specs.declared.call.Call.{Call}
 use Rattle.rules.specs.Numbers.{MAX-REDIRECTS}
 use Rattle.rules.specs.Lent.{Table}

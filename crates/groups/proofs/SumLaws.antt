@@ -1,13 +1,5 @@
 -- Sums over a group: what a join of two groups does to them, and what they cannot exceed.
-use mathlib.Core.Path.{_≡_, refl, sym, ap, ap₂}
-use mathlib.Core.Logic.{_≢_}
-use mathlib.Core.Bool.{cond}
-use mathlib.Core.List.{[], _∷_}
-use Prim.Native.Nat.{ℕ, zero, suc, _+_, _≤_, _<_, zero-le}
-use native.Mathlib.Nat.{le-refl, le-step}
-use native.Mathlib.Omega.{arith}
-use lib.Dec.{eqb}
-use borrow.Author.Tests.{eq-eqb, ne-eqb}
+use Rattle.kit.specs.Names.{_≡_, refl, sym, ap, ap₂, cond, [], _∷_, _≢_, ℕ, zero, suc, _+_, _≤_, _<_, zero-le, eqb, arith, le-refl, le-step, eq-eqb, ne-eqb}
 use Rattle.groups.specs.Sums.{Credits, due, total, ones, size}
 use Rattle.groups.specs.Groups.{at, shift}
 use Rattle.groups.proofs.Tools.{bySame}

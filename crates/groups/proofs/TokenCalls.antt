@@ -1,15 +1,6 @@
 -- Snapshots, rollbacks, commits and questions: a table that stands for a history stands for it with the call.
-use mathlib.Core.Path.{_≡_, refl, sym, ap, _∙_, subst}
-use mathlib.Core.Logic.{_≢_}
-use mathlib.Core.Bool.{false}
-use mathlib.Core.List.{List, [], _∷_}
-use Prim.Native.Nat.{ℕ, zero, suc, _+_, _-_, _≤_, _<_, zero-le}
-use native.Mathlib.Nat.{le-refl}
-use native.Mathlib.Omega.{arith}
-use lib.ListN.{length, length-set}
-use lib.Seq.{getD-set-same, getD-set-other}
-use lib.Dec.{eqb}
-use borrow.Author.Tests.{eqb-true, eqb-false, eq-eqb, ne-eqb, le-ltb}
+use Rattle.kit.specs.Names.{_≡_, refl, sym, ap, _∙_, subst, false, List, [], _∷_, _≢_, ℕ, zero, suc, _+_, _-_, _≤_, _<_, zero-le, length, length-set, eqb, getD-set-same, getD-set-other, arith}
+use Rattle.kit.specs.Names.{le-refl, eqb-true, eqb-false, eq-eqb, ne-eqb, le-ltb}
 use Rattle.rules.specs.declared.call.Call.{Call}
 use Rattle.rules.specs.declared.call.Call.the-variants.{Snapshot, Rollback, Commit}
 use Rattle.rules.specs.declared.call.Answer.{Answer}

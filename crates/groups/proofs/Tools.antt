@@ -1,11 +1,5 @@
 -- Cases: on a test, on whether two numbers are the same.
-use mathlib.Core.Path.{_≡_, refl}
-use mathlib.Core.Logic.{_≢_, _⊎_, inl, inr}
-use mathlib.Core.Bool.{Bool, true, false, cond}
-use Prim.Native.Nat.{ℕ, suc, _<_}
-use native.Mathlib.Omega.{arith}
-use lib.Dec.{eqb}
-use borrow.Author.Tests.{eqb-true, eqb-false}
+use Rattle.kit.specs.Names.{_≡_, refl, Bool, true, false, cond, _≢_, _⊎_, inl, inr, ℕ, suc, _<_, eqb, arith, eqb-true, eqb-false}
 
 pub cases : {P : Type 0} (b : Bool) → (b ≡ true → P) → (b ≡ false → P) → P
 cases true f g = f refl

@@ -1,15 +1,7 @@
 -- The undo log: undoing down to a mark gives back the very rows below the count that the mark was taken over, and what is logged
 -- keeps it so.
-use mathlib.Core.Path.{_≡_, refl, sym, ap, _∙_}
-use mathlib.Core.Logic.{_≢_}
-use mathlib.Core.Bool.{true, true≢false, and-eq-true-iff}
-use mathlib.Core.List.{List, [], _∷_, _++_}
-use Prim.Native.Nat.{ℕ, zero, suc, _+_, _-_, _*_, _≤_, _<_}
-use native.Mathlib.Nat.{le-refl}
-use native.Mathlib.Omega.{arith}
-use lib.ListN.{length}
-use lib.Dec.{eqb, ltb}
-use borrow.Author.Tests.{eqb-true, ltb-true, eq-eqb, ne-eqb, lt-ltb}
+use Rattle.kit.specs.Names.{_≡_, refl, sym, ap, _∙_, true, true≢false, and-eq-true-iff, List, [], _∷_, _++_, _≢_, ℕ, zero, suc, _+_, _-_, _*_, _≤_, _<_, length, eqb, ltb, arith, le-refl, eqb-true}
+use Rattle.kit.specs.Names.{ltb-true, eq-eqb, ne-eqb, lt-ltb}
 use Rattle.rules.specs.declared.table.UndoLog.{UndoLog}
 use Rattle.rules.specs.declared.table.UndoLog.the-variants.{NewElem, SetElem, Unknown}
 use Rattle.rules.specs.declared.table.Mark.{Mark}

@@ -1,13 +1,6 @@
 -- The walk of the rules: it ends at the key's root within 16 redirects, and what it rewrites leaves the groups as they are.
-use mathlib.Core.Path.{_≡_, refl, sym, ap, _∙_, subst}
-use mathlib.Core.Logic.{_≢_}
-use mathlib.Core.List.{List, [], _∷_, _++_}
-use Prim.Native.Nat.{ℕ, zero, suc, _+_, _^_, _≤_, _<_}
-use native.Mathlib.Nat.{le-trans}
-use native.Mathlib.Omega.{arith}
-use lib.ListN.{length, getD}
+use Rattle.kit.specs.Names.{_≡_, refl, sym, ap, _∙_, subst, List, [], _∷_, _++_, _≢_, ℕ, zero, suc, _+_, _^_, _≤_, _<_, length, getD, arith, le-trans, eq-eqb, ne-eqb, lt-ltb}
 use lib.Pow.{pow-mono}
-use borrow.Author.Tests.{eq-eqb, ne-eqb, lt-ltb}
 use Rattle.rules.specs.declared.table.Row.{Row}
 use Rattle.rules.specs.Numbers.{MAX-ROWS, MAX-REDIRECTS}
 use Rattle.rules.specs.Lent.{Rows, row, valueOf, rowAt, putRow}

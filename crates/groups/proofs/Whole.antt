@@ -1,16 +1,8 @@
 -- What holds of the groups that accepted deeds make: each key has a live root that is its own root, and a root of rank r has at least
 -- 2^r keys in its group.
-use mathlib.Core.Path.{_≡_, refl, sym, ap, _∙_, subst⁻¹}
-use mathlib.Core.Logic.{_≢_, _⊎_, inl, inr}
-use mathlib.Core.Bool.{cond}
-use mathlib.Core.List.{List, [], _∷_}
-use Prim.Native.Nat.{ℕ, suc, _+_, _^_, _≤_, _<_}
-use native.Mathlib.Nat.{le-refl, le-trans, lt-of-not-le, not-le-of-lt, le-of-suc-le-suc, not-suc-le-zero}
-use native.Mathlib.Numerals.{add-one}
-use native.Mathlib.Omega.{arith}
+use Rattle.kit.specs.Names.{_≡_, refl, sym, ap, _∙_, subst⁻¹, cond, List, [], _∷_, _≢_, _⊎_, inl, inr, ℕ, suc, _+_, _^_, _≤_, _<_, ltb, lit<, arith, add-one, le-refl, le-trans, lt-of-not-le}
+use Rattle.kit.specs.Names.{not-le-of-lt, le-of-suc-le-suc, not-suc-le-zero, eq-eqb, ne-eqb, ltb-true, ltb-false}
 use lib.Pow.{pow-mono}
-use lib.Dec.{ltb, lit<}
-use borrow.Author.Tests.{eq-eqb, ne-eqb, ltb-true, ltb-false}
 use Rattle.rules.specs.declared.table.Value.{Value}
 use Rattle.rules.specs.declared.table.Merged.the-variants.{Both}
 use Rattle.rules.specs.Merge.{merge}

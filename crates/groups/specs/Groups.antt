@@ -1,10 +1,5 @@
 -- Document 01, "The meter's table", without parents and without a log: what a creation, a join and a post make of the groups.
-use mathlib.Core.Path.{_≡_}
-use mathlib.Core.Logic.{_⊎_}
-use mathlib.Core.Bool.{cond}
-use mathlib.Core.List.{List, [], _∷_}
-use Prim.Native.Nat.{ℕ, suc, _+_, _<_}
-use lib.Dec.{eqb, ltb}
+use Rattle.kit.specs.Names.{_≡_, cond, List, [], _∷_, _⊎_, ℕ, suc, _+_, _<_, eqb, ltb}
 use Rattle.rules.specs.declared.table.Value.{Value}
 use Rattle.rules.specs.declared.table.Merged.{Merged}
 use Rattle.rules.specs.declared.table.Merged.the-variants.{Clash, TooMuch, Both}

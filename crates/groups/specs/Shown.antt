@@ -1,7 +1,5 @@
 -- The groups that a table shows, read off it by the walk of the rules.
-use mathlib.Core.Path.{_≡_}
-use mathlib.Core.List.{List, []}
-use Prim.Native.Nat.{ℕ, _<_}
+use Rattle.kit.specs.Names.{_≡_, List, [], ℕ, _<_}
 use Rattle.rules.specs.Numbers.{MAX-REDIRECTS}
 use Rattle.rules.specs.Lent.{Table, valueOf, rowAt}
 use Rattle.rules.specs.Walk.{Path, broken, to, path, steps}

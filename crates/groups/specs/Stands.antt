@@ -1,11 +1,6 @@
 -- When a table stands for a history: its rows show the groups after the deeds that survive, and its log leads back from snapshot to
 -- snapshot to rows that show the groups as each was taken.
-use mathlib.Core.Path.{_≡_}
-use mathlib.Core.Logic.{_≢_}
-use mathlib.Core.Bool.{true}
-use mathlib.Core.List.{List, [], _∷_}
-use Prim.Native.Nat.{ℕ, _-_, _≤_, _<_}
-use lib.ListN.{length}
+use Rattle.kit.specs.Names.{_≡_, true, List, [], _∷_, _≢_, ℕ, _-_, _≤_, _<_, length}
 use Rattle.rules.specs.declared.table.UndoLog.{UndoLog}
 use Rattle.rules.specs.declared.table.Mark.{Mark}
 use Rattle.rules.specs.Numbers.{MAX-ROWS, MAX-ENTRIES, MAX-OPEN}

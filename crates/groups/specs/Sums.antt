@@ -1,8 +1,5 @@
 -- What is put on the keys of a group. Group sizes, byte-seconds and the naming of owners are all such sums.
-use mathlib.Core.Bool.{cond}
-use mathlib.Core.List.{List, [], _∷_}
-use Prim.Native.Nat.{ℕ, zero, suc, _+_}
-use lib.Dec.{eqb}
+use Rattle.kit.specs.Names.{cond, List, [], _∷_, ℕ, zero, suc, _+_, eqb}
 
 -- Keys, and what is put on each.
 abbrev pub Credits : Type 0

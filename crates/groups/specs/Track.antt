@@ -1,11 +1,6 @@
 -- A history, and what of it survives, kept as a stack: what has survived now, and what had survived as each open snapshot was taken.
 -- Crate `history` has survival in document 01's own words, and the proof that the two are equal.
-use mathlib.Core.Path.{_≡_}
-use mathlib.Core.Logic.{_≢_}
-use mathlib.Core.Bool.{Bool, cond}
-use mathlib.Core.List.{List, [], _∷_}
-use Prim.Native.Nat.{ℕ, _<_}
-use lib.Dec.{eqb}
+use Rattle.kit.specs.Names.{_≡_, Bool, cond, List, [], _∷_, _≢_, ℕ, _<_, eqb}
 use Rattle.rules.specs.declared.call.Call.{Call}
 use Rattle.rules.specs.declared.call.Call.the-variants.{New, Len, Find, Unioned, Join, Post, Probe, ProbeKey, TryProbe, Snapshot, Rollback, Commit, Keys, Actions, Changes}
 use Rattle.rules.specs.declared.call.Answer.{Answer}

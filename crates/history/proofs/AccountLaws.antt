@@ -1,12 +1,5 @@
 -- The groups that accepted deeds make, and what the deeds come to: links, sums, owners and keys.
-use mathlib.Core.Path.{_≡_, refl, sym, ap, ap₂, _∙_}
-use mathlib.Core.Logic.{_↔_, _≢_, inl, inr}
-use mathlib.Core.List.{List, [], _∷_}
-use Prim.Native.Nat.{ℕ, suc, _+_, _<_}
-use native.Mathlib.Nat.{le-refl, not-suc-le-zero}
-use native.Mathlib.Omega.{arith}
-use lib.Dec.{eqb}
-use borrow.Author.Tests.{eqb-true, eqb-false, eq-eqb, ne-eqb}
+use Rattle.kit.specs.Names.{_≡_, refl, sym, ap, ap₂, _∙_, List, [], _∷_, _↔_, _≢_, inl, inr, ℕ, suc, _+_, _<_, eqb, arith, le-refl, not-suc-le-zero, eqb-true, eqb-false, eq-eqb, ne-eqb}
 use Rattle.rules.specs.declared.table.Owner.{Owner}
 use Rattle.rules.specs.declared.table.Owner.the-variants.{Nobody, Tenant}
 use Rattle.rules.specs.declared.table.Value.{Value}

@@ -1,10 +1,5 @@
 -- Roots and links: two keys have one root exactly when joins link them.
-use mathlib.Core.Path.{_≡_, refl, sym, ap, _∙_, subst}
-use mathlib.Core.Logic.{_↔_, _⊎_}
-use mathlib.Core.Bool.{cond}
-use mathlib.Core.List.{[], _∷_, List·Memᴰ, List·Memᴰ·head, List·Memᴰ·tail, List·Memᴰ·cases-cons, List·Memᴰ·not-nil}
-use Prim.Native.Nat.{ℕ}
-use lib.Dec.{eqb}
+use Rattle.kit.specs.Names.{_≡_, refl, sym, ap, _∙_, subst, cond, [], _∷_, List·Memᴰ, List·Memᴰ·head, List·Memᴰ·tail, List·Memᴰ·cases-cons, List·Memᴰ·not-nil, _↔_, _⊎_, ℕ, eqb}
 use Rattle.groups.specs.Groups.{shift}
 use Rattle.groups.proofs.Tools.{bySame, either}
 use Rattle.groups.proofs.SumLaws.{shift-hit, shift-miss}

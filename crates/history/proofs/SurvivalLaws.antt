@@ -1,13 +1,6 @@
 -- Document 01's survivors are those of the stack, in every history that follows the tokens' rules.
-use mathlib.Core.Path.{_≡_, refl, sym, ap, _∙_}
-use mathlib.Core.Logic.{_⊎_, inl, inr}
-use mathlib.Core.Bool.{Bool, true, false, cond, not, _&&_, _||_, true≢false}
-use mathlib.Core.List.{List, [], _∷_, _++_, map}
-use Prim.Native.Nat.{ℕ, suc, _≤_, _<_}
-use native.Mathlib.Nat.{le-refl}
-use native.Mathlib.Omega.{arith}
-use lib.Dec.{eqb}
-use borrow.Author.Tests.{eqb-true, eq-eqb, ne-eqb}
+use Rattle.kit.specs.Names.{_≡_, refl, sym, ap, _∙_, Bool, true, false, cond, not, _&&_, _||_, true≢false, List, [], _∷_, _++_, map, _⊎_, inl, inr, ℕ, suc, _≤_, _<_, eqb, arith, le-refl, eqb-true}
+use Rattle.kit.specs.Names.{eq-eqb, ne-eqb}
 use Rattle.groups.specs.Groups.{Deed}
 use Rattle.groups.specs.Track.{Event, History, isDone, Act, idle, moves, takes, undoes, closes, act, deedOf}
 use Rattle.groups.specs.Track.{Saved, Track, dropped, restored, noted, track, newer, lastToken, Innermost, Follows, Orderly}

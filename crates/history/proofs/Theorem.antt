@@ -1,13 +1,5 @@
 -- Demand 3: of every table that stands for a history, and so of every one that is reached from a fresh table.
-use mathlib.Core.Path.{_≡_, refl, sym, ap, _∙_, subst⁻¹}
-use mathlib.Core.Logic.{_↔_, _≢_}
-use mathlib.Core.Bool.{Bool, true, false}
-use mathlib.Core.List.{List, [], _∷_}
-use Prim.Native.Nat.{ℕ, _<_}
-use native.Mathlib.Omega.{arith}
-use lib.ListN.{length}
-use lib.Dec.{eqb}
-use borrow.Author.Tests.{eqb-false}
+use Rattle.kit.specs.Names.{_≡_, refl, sym, ap, _∙_, subst⁻¹, Bool, true, false, List, [], _∷_, _↔_, _≢_, ℕ, _<_, length, eqb, arith, eqb-false}
 use Rattle.rules.specs.declared.call.Call.{Call}
 use Rattle.rules.specs.declared.call.Call.the-variants.{Find}
 use Rattle.rules.specs.declared.table.Owner.{Owner}

@@ -1,9 +1,5 @@
 -- What creations, joins and posts come to: which keys are linked, what was put on each key, whom it names.
-use mathlib.Core.Path.{_≡_}
-use mathlib.Core.Bool.{cond}
-use mathlib.Core.List.{List, [], _∷_, List·Memᴰ}
-use Prim.Native.Nat.{ℕ, zero, suc}
-use lib.Dec.{eqb}
+use Rattle.kit.specs.Names.{_≡_, cond, List, [], _∷_, List·Memᴰ, ℕ, zero, suc, eqb}
 use Rattle.rules.specs.declared.table.Owner.{Owner}
 use Rattle.rules.specs.declared.table.Owner.the-variants.{Nobody, Tenant}
 use Rattle.rules.specs.declared.table.Value.{Value}

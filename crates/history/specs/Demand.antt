@@ -1,8 +1,5 @@
 -- Demand 3, sentence by sentence, of a table and the history that led to it; and the histories that it is promised for.
-use mathlib.Core.Path.{_≡_}
-use mathlib.Core.Logic.{_↔_}
-use mathlib.Core.List.{List, [], _∷_}
-use Prim.Native.Nat.{ℕ, _^_, _≤_, _<_}
+use Rattle.kit.specs.Names.{_≡_, List, [], _∷_, _↔_, ℕ, _^_, _≤_, _<_}
 use Rattle.rules.specs.declared.call.Call.{Call}
 use Rattle.rules.specs.declared.call.Call.the-variants.{Find}
 use Rattle.rules.specs.declared.table.Owner.the-variants.{Nobody, Tenant}

@@ -1,9 +1,6 @@
 -- Document 01, "Rules of the log and the tokens": "A call is rolled back when a snapshot that was open at the time of the call is later
 -- rolled back with DONE. Otherwise, if answered DONE, it survives; a refused call never does."
-use mathlib.Core.Bool.{Bool, false, cond, not, _&&_, _||_}
-use mathlib.Core.List.{List, [], _∷_, _++_}
-use Prim.Native.Nat.{ℕ}
-use lib.Dec.{eqb}
+use Rattle.kit.specs.Names.{Bool, false, cond, not, _&&_, _||_, List, [], _∷_, _++_, ℕ, eqb}
 use Rattle.groups.specs.Groups.{Deed}
 use Rattle.groups.specs.Track.{Event, History, isDone, Act, idle, moves, takes, undoes, closes, act, deedOf}
 

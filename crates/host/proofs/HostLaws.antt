@@ -1,12 +1,5 @@
 -- What the tests come to is what the exported functions leave. Assumes nothing.
-use mathlib.Core.Path.{_≡_, refl, sym, ap, _∙_}
-use mathlib.Core.Bool.{Bool, true, false, cond}
-use mathlib.Core.List.{List}
-use Prim.Native.Nat.{ℕ, _*_, _≤_}
-use native.Mathlib.Omega.{arith}
-use lib.ListN.{length}
-use lib.Dec.{ltb}
-use borrow.Author.Tests.{eq-eqb, ne-eqb}
+use Rattle.kit.specs.Names.{_≡_, refl, sym, ap, _∙_, Bool, true, false, cond, List, ℕ, _*_, _≤_, length, ltb, arith, eq-eqb, ne-eqb}
 use Rattle.layout.specs.State.{Sized}
 use Rattle.coding.specs.Coding.{Listed, unlisted, calls, callList, single, isListed, callsIn}
 use Rattle.coding.proofs.CodingLaws.{four-each}

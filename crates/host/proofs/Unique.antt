@@ -1,6 +1,5 @@
 -- No two outcomes meet the contract of an exported function: what is returned and every lent list at exit are fixed. Assumes nothing.
-use mathlib.Core.Path.{_≡_, sym, ap, _∙_}
-use Prim.Native.Nat.{ℕ}
+use Rattle.kit.specs.Names.{_≡_, sym, ap, _∙_, ℕ}
 use Rattle.coding.specs.Coding.{Listed}
 use Rattle.runs.specs.Served.{Host}
 use Rattle.host.specs.Host.{Hosted, hosted, serve}

@@ -1,8 +1,5 @@
 -- The outcome of an exported function, over all the lists that the host lends.
-use mathlib.Core.Bool.{Bool, cond, not, _&&_}
-use Prim.Native.Nat.{ℕ, _*_}
-use lib.ListN.{length}
-use lib.Dec.{eqb, ltb}
+use Rattle.kit.specs.Names.{Bool, cond, not, _&&_, ℕ, _*_, length, eqb, ltb}
 use Rattle.layout.specs.State.{NUMBERS, SERIALS}
 use Rattle.coding.specs.Coding.{Listed, unlisted, calls}
 use Rattle.admit.specs.Admit.{CARRIED-OUT, NO-STATE, NO-CALL, NO-ROOM}

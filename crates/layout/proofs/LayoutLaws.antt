@@ -1,14 +1,6 @@
 -- The numbers of a state: what stands where, what a call writes, and that numbers and state are each other's. Assumes nothing.
-use mathlib.Core.Path.{_≡_, refl, sym, ap, _∙_}
-use mathlib.Core.Bool.{Bool, true, false, cond}
-use mathlib.Core.List.{List, [], _∷_, map}
-use Prim.Native.Nat.{ℕ, zero, suc, _+_, _-_, _≤_, _<_}
-use native.Mathlib.Omega.{arith}
-use native.Mathlib.Numerals.{add-one}
-use lib.ListN.{length, getD, set}
-use lib.Seq.{set-out}
-use lib.Dec.{ltb}
-use borrow.Author.Tests.{lt-ltb, le-ltb, eq-eqb, ne-eqb}
+use Rattle.kit.specs.Names.{_≡_, refl, sym, ap, _∙_, Bool, true, false, cond, List, [], _∷_, map, ℕ, zero, suc, _+_, _-_, _≤_, _<_, length, getD, set, drop, ltb}
+use Rattle.kit.specs.Names.{length-set, set-out, arith, add-one, lt-ltb, le-ltb, eq-eqb, ne-eqb}
 use Rattle.rules.specs.declared.call.Call.{Call}
 use Rattle.rules.specs.declared.call.Call.the-variants.{Rollback, Commit, Keys, Actions, Changes}
 use Rattle.rules.specs.declared.table.Head.{Head}
@@ -21,7 +13,7 @@ use Rattle.rules.specs.Tokens.{innermost, seek}
 use Rattle.undo_log.specs.declared.tokens.Settled.{Settled}
 use Rattle.undo_log.specs.Settled.{stateAfter, latest, markOf, markFor}
 use Rattle.undo_log.proofs.MarkLaws.{seek-hit, seek-miss}
-use Rattle.layout.specs.State.{Sized, marksOf, headIn, stateOf, pairsOf, stateNumbers, stateSerials}
+use Rattle.layout.specs.State.{NUMBERS, SERIALS, Sized, marksOf, headIn, stateBy, stateOf, headed, pairsOf, stateNumbers, stateSerials}
 
 -- ---- marks as numbers: log length and keys two by two, and the serials
 
@@ -59,15 +51,25 @@ marks-set (l ∷ k ∷ ns) (s ∷ ss) (suc i) x y z = rw (twice i, twice-more i)
 
 -- ---- the numbers of a state
 
+-- Numbers that begin with a head, and both lists taken apart.
+data Begun : List ℕ → Type 0 where
+  begun : (c u o : ℕ) (ns : List ℕ) → length ns ≡ 64 → Begun (c ∷ u ∷ o ∷ ns)
+
+begins : (ns : List ℕ) → length ns ≡ NUMBERS → Begun ns
+begins [] e = absurd (omega arith)
+begins (c ∷ []) e = absurd (omega arith)
+begins (c ∷ u ∷ []) e = absurd (omega arith)
+begins (c ∷ u ∷ o ∷ ns) e = begun c u o ns (omega arith)
+
 data Shaped : List ℕ → List ℕ → Type 0 where
   shaped : (c u o l : ℕ) (ns ss : List ℕ) → length ns ≡ 64 → length ss ≡ 32 → Shaped (c ∷ u ∷ o ∷ ns) (l ∷ ss)
 
+shape-begun : {ns : List ℕ} (ss : List ℕ) → length ss ≡ SERIALS → Begun ns → Shaped ns ss
+shape-begun [] e b = absurd (omega arith)
+shape-begun (l ∷ ss) e (begun c u o ns n) = shaped c u o l ns ss n (omega arith)
+
 shape : (ns ss : List ℕ) → Sized ns ss → Shaped ns ss
-shape [] ss z = absurd (omega arith)
-shape (c ∷ []) ss z = absurd (omega arith)
-shape (c ∷ u ∷ []) ss z = absurd (omega arith)
-shape (c ∷ u ∷ o ∷ ns) [] z = absurd (omega arith)
-shape (c ∷ u ∷ o ∷ ns) (l ∷ ss) z = shaped c u o l ns ss (omega arith) (omega arith)
+shape ns ss z = shape-begun ss (z .serials) (begins ns (z .numbers))
 
 -- Where the numbers of mark i stand.
 past : (i : ℕ) → i + i + 3 ≡ suc (suc (suc (i + i)))
@@ -85,49 +87,66 @@ mark-there i h (shaped c u o l ns ss n s) = rw (past-one i, past i, add-one i) (
 pub mark-read : (ns ss : List ℕ) (i : ℕ) → i < MAX-OPEN → Sized ns ss → markIn ns ss i ≡ markAt (stateOf ns ss) i
 mark-read ns ss i h z = mark-there i h (shape ns ss z)
 
--- ---- what a call writes
+-- ---- another head
 
-abbrev headed : List ℕ → Head → List ℕ
-headed ns h = set (set (set ns 0 (h .count)) 1 (h .used)) 2 (h .«open»)
+module _ (h : Head) where
+  headed-begun : {ns : List ℕ} (ss : List ℕ) → Begun ns → stateOf (headed ns h) ss ≡ stateBy h ns ss
+  headed-begun ss (begun c u o ns n) = refl
+
+  alike-begun : {ns ms : List ℕ} → Begun ns → Begun ms → drop 3 ns ≡ drop 3 ms → headed ns h ≡ headed ms h
+  alike-begun (begun c u o ns n) (begun d v p ms m) q = ap (λ (r : List ℕ). h .count ∷ h .used ∷ h .«open» ∷ r) q
+
+same-begun : {ns : List ℕ} → Begun ns → headed ns (headIn ns) ≡ ns
+same-begun (begun c u o ns n) = refl
+
+pub headed-state : (ns ss : List ℕ) (h : Head) → length ns ≡ NUMBERS → stateOf (headed ns h) ss ≡ stateBy h ns ss
+headed-state ns ss h z = headed-begun h ss (begins ns z)
+
+pub headed-length : (ns : List ℕ) (h : Head) → length (headed ns h) ≡ length ns
+headed-length ns h = simp length-set
+
+pub headed-same : (ns : List ℕ) → length ns ≡ NUMBERS → headed ns (headIn ns) ≡ ns
+headed-same ns z = same-begun (begins ns z)
+
+-- Numbers that differ in their heads alone are the same once another is written.
+pub headed-twice : (ns ms : List ℕ) (h : Head) → length ns ≡ NUMBERS → drop 3 ns ≡ drop 3 ms → length ms ≡ length ns → headed ns h ≡ headed ms h
+headed-twice ns ms h z q e = alike-begun h (begins ns z) (begins ms (e ∙ z)) q
+
+-- ---- what a call writes
 
 abbrev opened : List ℕ → Head → List ℕ
 opened ns b = let i = b .«open» in set (set ns (i + i + 3) (b .used)) (i + i + 3 + 1) (b .count)
 
--- No snapshot was opened.
-level-there : {ns ss : List ℕ} (r : Settled) → r .head .«open» ≤ getD ns 2 0 → Shaped ns ss
-    → stateOf (headed ns (r .head)) ss ≡ stateAfter (stateOf ns ss) r
-unfolding stateAfter
-level-there r h (shaped c u o l ns ss n s) = rw (le-ltb o (r .head .«open») h)
-
--- One was, and its mark has no place.
-beyond-there : {ns ss : List ℕ} (r : Settled) → getD ns 2 0 < r .head .«open» → MAX-OPEN ≤ getD ns 2 0 → Shaped ns ss
-    → stateOf (headed ns (r .head)) (set ss 0 (r .answer .token)) ≡ stateAfter (stateOf ns ss) r
-unfolding stateAfter
-beyond-there r h k (shaped c u o l ns ss n s) =
-    rw (lt-ltb o (r .head .«open») h, set-out (marksOf ns ss) o (mark (r .answer .token) u c) (omega (arith, marks-length ns ss (omega arith))))
-
--- One was, and its mark is written.
-opened-there : {ns ss : List ℕ} (r : Settled) → getD ns 2 0 < r .head .«open» → Shaped ns ss
-    → stateOf (opened (headed ns (r .head)) (headIn ns)) (set (set ss 0 (r .answer .token)) (getD ns 2 0 + 1) (r .answer .token))
-    ≡ stateAfter (stateOf ns ss) r
-unfolding stateAfter
-opened-there r h (shaped c u o l ns ss n s) =
-    rw (lt-ltb o (r .head .«open») h, past-one o, past o, add-one o, marks-set ns ss o u c (r .answer .token))
-
-module _ (ns ss : List ℕ) (z : Sized ns ss) (b : Head) (q : b ≡ headIn ns) (r : Settled) where
-  was : b .«open» ≡ getD ns 2 0
-  was = ap (λ (h : Head). h .«open») q
-
-  pub after-level : r .head .«open» ≤ b .«open» → stateOf (headed ns (r .head)) ss ≡ stateAfter (stateOf ns ss) r
-  after-level h = level-there r (omega (arith, was)) (shape ns ss z)
+module _ (b : Head) (r : Settled) where
+  -- No snapshot was opened.
+  pub after-level : (ns ss : List ℕ) → r .head .«open» ≤ b .«open» → stateBy (r .head) ns ss ≡ stateAfter (stateBy b ns ss) r
+  unfolding stateAfter
+  after-level ns ss h = rw (le-ltb (b .«open») (r .head .«open») h)
 
   module _ (h : b .«open» < r .head .«open») where
-    pub after-beyond : MAX-OPEN ≤ b .«open» → stateOf (headed ns (r .head)) (set ss 0 (r .answer .token)) ≡ stateAfter (stateOf ns ss) r
-    after-beyond k = beyond-there r (omega (arith, was)) (omega (arith, was)) (shape ns ss z)
+    -- One was, and its mark has no place.
+    beyond-there : {ns ss : List ℕ} → MAX-OPEN ≤ b .«open» → Shaped ns ss
+        → stateBy (r .head) ns (set ss 0 (r .answer .token)) ≡ stateAfter (stateBy b ns ss) r
+    unfolding stateAfter
+    beyond-there k (shaped c u o l ns ss n s) =
+        let out : length (marksOf ns ss) ≤ b .«open» = omega (arith, marks-length ns ss (omega arith)) in
+        rw (lt-ltb (b .«open») (r .head .«open») h, set-out (marksOf ns ss) (b .«open») (mark (r .answer .token) (b .used) (b .count)) out)
 
-    pub after-opened
-        : stateOf (opened (headed ns (r .head)) b) (set (set ss 0 (r .answer .token)) (b .«open» + 1) (r .answer .token)) ≡ stateAfter (stateOf ns ss) r
-    after-opened = rw q (opened-there r (omega (arith, was)) (shape ns ss z))
+    -- One was, and its mark is written.
+    opened-there : {ns ss : List ℕ} → Shaped ns ss
+        → stateBy (r .head) (opened ns b) (set (set ss 0 (r .answer .token)) (b .«open» + 1) (r .answer .token)) ≡ stateAfter (stateBy b ns ss) r
+    unfolding stateAfter
+    opened-there (shaped c u o l ns ss n s) =
+        let i = b .«open» in
+        rw (lt-ltb i (r .head .«open») h, past-one i, past i, add-one i, marks-set ns ss i (b .used) (b .count) (r .answer .token))
+
+    module _ (ns ss : List ℕ) (z : Sized ns ss) where
+      pub after-beyond : MAX-OPEN ≤ b .«open» → stateBy (r .head) ns (set ss 0 (r .answer .token)) ≡ stateAfter (stateBy b ns ss) r
+      after-beyond k = beyond-there k (shape ns ss z)
+
+      pub after-opened
+          : stateBy (r .head) (opened ns b) (set (set ss 0 (r .answer .token)) (b .«open» + 1) (r .answer .token)) ≡ stateAfter (stateBy b ns ss) r
+      after-opened = opened-there (shape ns ss z)
 
 -- ---- each is the other's
 

@@ -1,9 +1,6 @@
 -- A state as lent numbers. Short ones: count, used, open, then each mark's log length and keys, outermost first. Long ones: the last
 -- serial, then each mark's serial.
-use mathlib.Core.Path.{_≡_}
-use mathlib.Core.List.{List, [], _∷_, map}
-use Prim.Native.Nat.{ℕ}
-use lib.ListN.{length, getD, drop}
+use Rattle.kit.specs.Names.{_≡_, List, [], _∷_, map, ℕ, length, getD, set, drop}
 use Rattle.rules.specs.declared.table.Head.{Head}
 use Rattle.rules.specs.declared.table.Mark.{Mark}
 use Rattle.rules.specs.declared.table.State.{State}
@@ -30,8 +27,16 @@ marksOf (l ∷ k ∷ ns) (s ∷ ss) = mark s l k ∷ marksOf ns ss
 abbrev pub headIn : List ℕ → Head
 headIn ns = head (getD ns 0 0) (getD ns 1 0) (getD ns 2 0)
 
+-- The state of a head, with the last serial and the marks that stand in the numbers.
+abbrev pub stateBy : Head → List ℕ → List ℕ → State
+stateBy h ns ss = stateWith h (getD ss 0 0) (marksOf (drop 3 ns) (drop 1 ss))
+
 abbrev pub stateOf : List ℕ → List ℕ → State
-stateOf ns ss = stateWith (headIn ns) (getD ss 0 0) (marksOf (drop 3 ns) (drop 1 ss))
+stateOf ns ss = stateBy (headIn ns) ns ss
+
+-- The numbers with another head.
+abbrev pub headed : List ℕ → Head → List ℕ
+headed ns h = set (set (set ns 0 (h .count)) 1 (h .used)) 2 (h .«open»)
 
 -- ---- and back
 

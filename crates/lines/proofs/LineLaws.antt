@@ -1,15 +1,6 @@
 -- Laws of lines and their bytes. Assumes nothing.
-use mathlib.Core.Bool.{Bool, true, false}
-use mathlib.Core.List.{List, _∷_}
-use mathlib.Core.Path.{_≡_, ap, _∙_}
-use Prim.Native.Nat.{ℕ, suc, _+_, _≤_, _<_}
-use native.Mathlib.Decide.{decLe}
-use native.Mathlib.Nat.{min-le-left, min-le-right, min-eq-right}
-use native.Mathlib.Numerals.{add-one}
-use native.Mathlib.Omega.{arith}
-use borrow.Author.Tests.{lt-ltb, le-ltb, eq-eqb, ne-eqb}
-use lib.ListN.{length, getD, set, take, drop, length-take, drop-of-length-le, List·getD-eq-default}
-use lib.Seq.{length-take-le, drop-cons, getD-take}
+use Rattle.kit.specs.Names.{_≡_, ap, _∙_, Bool, true, false, List, _∷_, ℕ, suc, _+_, _≤_, _<_, length, getD, set, take, drop, length-take, drop-of-length-le, List·getD-eq-default, length-take-le}
+use Rattle.kit.specs.Names.{drop-cons, getD-take, arith, decLe, add-one, min-le-left, min-le-right, min-eq-right, lt-ltb, le-ltb, eq-eqb, ne-eqb}
 use Rattle.parser.specs.Command.{commandOf}
 use Rattle.commands.specs.declared.command.Command.the-variants.{Blank, Error}
 use Rattle.lines.specs.Lines.{line, reached, keeping, gathering, cutOff, lineCommand}

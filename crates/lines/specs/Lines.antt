@@ -1,9 +1,5 @@
 -- Lines of the input: how their bytes are gathered, and which command a line is.
-use mathlib.Core.Bool.{Bool, true, false, cond}
-use mathlib.Core.List.{List, [], _∷_}
-use Prim.Native.Nat.{ℕ, _+_}
-use lib.Dec.{eqb, ltb}
-use lib.ListN.{length, getD, set, take}
+use Rattle.kit.specs.Names.{Bool, true, false, cond, List, [], _∷_, ℕ, _+_, length, getD, set, take, eqb, ltb}
 use Rattle.parser.specs.Command.{commandOf}
 use Rattle.commands.specs.declared.command.Command.{Command}
 use Rattle.commands.specs.declared.command.Command.the-variants.{Blank, Error}

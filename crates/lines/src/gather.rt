@@ -1,7 +1,4 @@
-ghost use mathlib.Core.List.{List};
-ghost use mathlib.Core.Path.{_≡_};
-ghost use Prim.Native.Nat.{ℕ};
-ghost use lib.ListN.{take, drop};
+ghost use Rattle.kit.specs.Names.{_≡_, List, ℕ, take, drop};
 ghost use Rattle.lines.specs.Lines.{line as lineOf, reached, keeping, gathering};
 
 // How much of a line is kept, and whether there was more than there is room for.

@@ -1,12 +1,6 @@
 -- Laws of the parents that a walk leaves on its path, and of the path from another key there. Assumes nothing.
-use mathlib.Core.Path.{_≡_, refl, ap, sym, _∙_}
-use mathlib.Core.Bool.{true}
-use mathlib.Core.List.{List, [], _∷_, append-nil}
-use Prim.Native.Nat.{ℕ, zero, suc, _+_, _-_, _≤_, _<_}
-use native.Mathlib.Omega.{arith}
-use native.Mathlib.Decide.{decLt, ℕ-discrete}
-use lib.ListN.{length, getD, take, set, length-set, length-take}
-use lib.Seq.{getD-set-same, getD-set-other, set-out, take-set-le, getD-take}
+use Rattle.kit.specs.Names.{_≡_, refl, ap, sym, _∙_, true, List, [], _∷_, append-nil, ℕ, zero, suc, _+_, _-_, _≤_, _<_, length, getD, take, set, length-set, length-take, getD-set-same}
+use Rattle.kit.specs.Names.{getD-set-other, set-out, take-set-le, getD-take, arith, decLt, ℕ-discrete}
 use Rattle.rules.specs.Walk.{broken, to, path}
 use Rattle.roots.specs.declared.path.Trail.{Trail}
 use Rattle.roots.specs.Trail.{rootOf, passedOf, compress, compressed, traced, Short}

@@ -1,7 +1,7 @@
 ghost use mathlib.Core.Path.{_≡_};
 ghost use Rattle.rules.specs.Contract.{tableLent};
 ghost use Rattle.arrays.specs.Cut.{left, called};
-use arrays::lent::lent;
+use arrays::lengths::at_most;
 use arrays::reply::Changed;
 use arrays::reply::Reply;
 use commands::command::Lengths;
@@ -20,11 +20,11 @@ pub fn call_lent(
 ) -> Changed
     ensures { let t = tableLent parents crowns amounts log in λ r. ⌜ left r (t .exit) ≡ called lengths (t .entry state) call ⌝ }
 {
-    let a = lent(lengths.parents, parents.len()) as usize;
-    let b = lent(lengths.crowns, crowns.len()) as usize;
-    let c = lent(lengths.amounts, amounts.len()) as usize;
-    let d = lent(lengths.log, log.len()) as usize;
-    let answered = by_value::calls::call(
+    let a = at_most(lengths.parents, parents.len()) as usize;
+    let b = at_most(lengths.crowns, crowns.len()) as usize;
+    let c = at_most(lengths.amounts, amounts.len()) as usize;
+    let d = at_most(lengths.log, log.len()) as usize;
+    let answered = table::by_value::call(
         state,
         &mut parents[..a],
         &mut crowns[..b],

@@ -1,9 +1,10 @@
-// Reads a list of calls from standard input and prints their answers. What is decided is decided in the library `reading`.
-ghost use Prim.Native.Nat.{_≤_};
-ghost use lib.ListN.{length};
+// Reads a list of calls from standard input and prints their answers. What one turn does is said in `turn`.
+ghost use Rattle.kit.specs.Names.{_≤_, length};
+use crate::turn::turn;
 use reading::read::begin;
-use reading::read::turn;
 use show::buffer::flush;
+
+mod turn;
 
 // A proved loop has to end, and nothing says that the input does: so turns are counted down, from a number that no run
 // uses up.

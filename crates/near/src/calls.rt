@@ -1,6 +1,5 @@
 // Calls whose walks have at most one redirect, as nearly all have: nothing is rewritten and no path is kept.
-ghost use mathlib.Core.Bool.{false};
-ghost use mathlib.Core.Path.{_≡_};
+ghost use Rattle.kit.specs.Names.{_≡_, false};
 ghost use Rattle.rules.specs.Contract.{rowsNow, rowsLent, logLent};
 ghost use Rattle.rules.specs.Refusal.{sizesOf, bad};
 ghost use Rattle.decisions.specs.Sorted.{walkCall};
@@ -10,41 +9,14 @@ use decisions::decision::Decision;
 use decisions::sorted::WalkCall;
 use decisions::todo::from_verdict;
 use decisions::todo::refused;
-use one_walk::plan::one_plan;
+use near_one::calls::near_one;
 use plans::room::fitted;
-use plans::verdict::OneCall;
 use plans::verdict::TwoCall;
 use roots::near::near_root;
 use rules::numbers::ENTRY;
 use rules::numbers::NO_KEY;
 use rules::table::Head;
 use two_walks::plan::two_plan;
-
-fn near_one(
-    parents: &[u32],
-    crowns: &[u32],
-    amounts: &[u64],
-    log: &[u32],
-    head: Head,
-    key: u32,
-    call: OneCall,
-) -> Decision
-    requires { ⌜ bad (sizesOf (rowsNow parents crowns amounts) (now log)) head ≡ false ⌝ }
-    ensures { let rs = rowsLent parents crowns amounts in
-        let l = logLent log in
-        λ r. ⌜ DecidedAnyhow (rs .entry) (l .entry) head (walkCall (One key call)) r ⌝ }
-{
-    if key >= head.count {
-        return Decision::Near(refused(NO_KEY, head));
-    }
-    let near = near_root(parents, head.count, key);
-    if !near.found {
-        return Decision::Far(WalkCall::One(key, call));
-    }
-    let plan = one_plan(parents, crowns, amounts, call, near.root, near.steps);
-    let verdict = fitted(plan, head.open, head.used, log.len() / ENTRY, 0);
-    Decision::Near(from_verdict(verdict, head))
-}
 
 fn near_two(
     parents: &[u32],
@@ -59,7 +31,7 @@ fn near_two(
     requires { ⌜ bad (sizesOf (rowsNow parents crowns amounts) (now log)) head ≡ false ⌝ }
     ensures { let rs = rowsLent parents crowns amounts in
         let l = logLent log in
-        λ r. ⌜ DecidedAnyhow (rs .entry) (l .entry) head (walkCall (Two a b call)) r ⌝ }
+        λ r. ⌜ DecidedAnyhow (rs .entry) (l .entry) head (walkCall (Two a call b)) r ⌝ }
 {
     if a >= head.count {
         return Decision::Near(refused(NO_KEY, head));
@@ -69,11 +41,11 @@ fn near_two(
     }
     let first = near_root(parents, head.count, a);
     if !first.found {
-        return Decision::Far(WalkCall::Two(a, b, call));
+        return Decision::Far(WalkCall::Two(a, call, b));
     }
     let second = near_root(parents, head.count, b);
     if !second.found {
-        return Decision::Far(WalkCall::Two(a, b, call));
+        return Decision::Far(WalkCall::Two(a, call, b));
     }
     let steps = first.steps + second.steps;
     let plan = two_plan(
@@ -105,6 +77,6 @@ pub fn near_walk(
 {
     match call {
         WalkCall::One(key, what) => near_one(parents, crowns, amounts, log, head, key, what),
-        WalkCall::Two(a, b, what) => near_two(parents, crowns, amounts, log, head, a, b, what),
+        WalkCall::Two(a, what, b) => near_two(parents, crowns, amounts, log, head, a, b, what),
     }
 }

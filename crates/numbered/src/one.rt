@@ -1,15 +1,18 @@
-ghost use mathlib.Core.Path.{_≡_};
-ghost use Rattle.rules.specs.Contract.{tableLent};
-ghost use Rattle.rules.specs.Refusal.{outcome};
+ghost use Rattle.kit.specs.Names.{_≡_, false};
+ghost use Rattle.rules.specs.Contract.{rowsNow, tableLent};
+ghost use Rattle.rules.specs.Refusal.{outcome, sizesOf, bad};
 ghost use Rattle.rules.specs.Step.{step};
-ghost use Rattle.layout.specs.State.{Sized, stateOf};
-use layout::state::head_of;
-use layout::state::mark_for;
-use layout::state::write_after;
-use rules::call::Answer;
+ghost use Rattle.undo_log.specs.Settled.{markFor};
+ghost use Rattle.layout.specs.State.{Sized, stateBy};
 use rules::call::Call;
+use rules::table::Head;
+use rules::table::Sought;
+use table::call::call_good;
+use undo_log::tokens::Settled;
+use write_state::after::write_after;
 
-// One call on a table whose state is lent as numbers: no more of the state is read and written than the call is about.
+// One call where nothing is bad, with the head and the mark in question at hand: of the state that is lent as numbers, no more is
+// read than the last serial and no more written than a mark that the call makes.
 pub fn carry_out(
     numbers: &mut [u32],
     serials: &mut [u64],
@@ -17,15 +20,18 @@ pub fn carry_out(
     crowns: &mut [u32],
     amounts: &mut [u64],
     log: &mut [u32],
+    head: Head,
+    sought: Sought,
     call: Call,
-) -> Answer
+) -> Settled
     requires { ⌜ Sized (now numbers) (now serials) ⌝ }
+    requires { ⌜ sought ≡ markFor (stateBy head (now numbers) (now serials)) call ⌝ }
+    requires { ⌜ bad (sizesOf (rowsNow parents crowns amounts) (now log)) head ≡ false ⌝ }
     ensures { let t = tableLent parents crowns amounts log in
-        λ r. ⌜ outcome r (t .exit (stateOf (now (numbers .exit)) (now (serials .exit)))) ≡ step (t .entry (stateOf (now (numbers .entry)) (now (serials .entry)))) call ⌝ }
+        λ r. ⌜ outcome (r .answer) (t .exit (stateBy (r .head) (now (numbers .exit)) (now (serials .exit))))
+        ≡ step (t .entry (stateBy head (now (numbers .entry)) (now (serials .entry)))) call ⌝ }
 {
-    let head = head_of(numbers);
-    let sought = mark_for(numbers, serials, call);
-    let settled = table::call::call(
+    let settled = call_good(
         parents,
         crowns,
         amounts,
@@ -36,5 +42,5 @@ pub fn carry_out(
         call,
     );
     write_after(numbers, serials, head, settled);
-    settled.answer
+    settled
 }

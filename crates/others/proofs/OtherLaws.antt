@@ -1,11 +1,7 @@
 -- Laws of the commands that are no calls, told by their tags. Assumes nothing.
-use mathlib.Core.List.{[], _∷_}
-use mathlib.Core.Path.{_≡_, refl}
-use Prim.Native.Nat.{_-_}
-use native.Mathlib.Omega.{arith}
+use Rattle.kit.specs.Names.{_≡_, refl, true, [], _∷_, _-_, arith}
 use denote.Enum.Declared.{tagOf}
 use types.Run.{OneOf, miss}
-use mathlib.Core.Bool.{true}
 use Rattle.rules.specs.declared.table.State.{State}
 use Rattle.rules.specs.Lent.{Rows, Log, Table, table}
 use Rattle.commands.proofs.command.Command.{the-type}

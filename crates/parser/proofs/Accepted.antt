@@ -1,13 +1,6 @@
 -- No number above its width is accepted: a line that makes a command has a form's name for its first word and as many words after it as
 -- the form has places, and each of these stands for the decimal value of its digits, within the width of its place. Assumes nothing.
-use mathlib.Core.Bool.{Bool, true, false, cond}
-use mathlib.Core.List.{List, [], _∷_}
-use mathlib.Core.Path.{_≡_, refl, ap, sym, _∙_}
-use Prim.Native.Nat.{ℕ, _≤_, _<_}
-use native.Mathlib.Omega.{arith}
-use native.Mathlib.Decide.{decLt}
-use lib.Dec.{eqb}
-use lib.ListN.{length, length-map, getD, List·getD-eq-default, List·getD-map}
+use Rattle.kit.specs.Names.{_≡_, refl, ap, sym, _∙_, Bool, true, false, cond, List, [], _∷_, ℕ, _≤_, _<_, length, length-map, getD, List·getD-eq-default, List·getD-map, eqb, arith, decLt}
 use Rattle.parser.proofs.CommandLaws.{either}
 use Rattle.words.proofs.LineLaws.{placed}
 use Rattle.words.proofs.NumeralLaws.{both, in-limit}

@@ -1,16 +1,7 @@
 -- Laws of a line as a command: its numbers one by one, and the line from its first byte on. Assumes nothing.
-use mathlib.Core.Bool.{Bool, true, false, cond}
-use mathlib.Core.List.{List, [], _∷_, _++_, append-nil, map}
-use mathlib.Core.Path.{_≡_, refl, ap, sym, _∙_, fun-ext}
-use Prim.Native.Nat.{ℕ, zero, suc, _+_, _*_, _/_, _%_, _≤_, _<_}
-use native.Mathlib.Omega.{arith}
-use native.Mathlib.Decide.{decLt, ℕ-discrete}
-use native.Mathlib.Nat.{add-mul-div-left, add-mul-mod-self-left, mod-eq-of-lt}
-use native.Mathlib.Numerals.{add-one}
-use borrow.Author.Tests.{eq-eqb, leb-true, ne-eqb}
-use lib.Dec.{eqb, leb}
-use lib.ListN.{length, getD, set, take, drop, replicate, drop-of-length-le, take-append-drop, List·getD-map}
-use lib.Seq.{drop-cons, drop-drop, getD-drop, getD-set-other, getD-set-same, getD-take}
+use Rattle.kit.specs.Names.{_≡_, refl, ap, sym, _∙_, fun-ext, Bool, true, false, cond, List, [], _∷_, _++_, append-nil, map, ℕ, zero, suc, _+_, _*_, _/_, _%_, _≤_, _<_, length, getD, set, take}
+use Rattle.kit.specs.Names.{drop, replicate, drop-of-length-le, take-append-drop, List·getD-map, eqb, leb, drop-cons, drop-drop, getD-drop, getD-set-other, getD-set-same, getD-take, arith, decLt}
+use Rattle.kit.specs.Names.{ℕ-discrete, add-one, add-mul-div-left, add-mul-mod-self-left, mod-eq-of-lt, eq-eqb, leb-true, ne-eqb}
 use Rattle.rules.specs.Numbers.{WORD}
 use Rattle.words.proofs.LineLaws.{no-words}
 use Rattle.words.proofs.NumeralLaws.{in-limit, says}

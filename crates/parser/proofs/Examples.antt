@@ -1,6 +1,5 @@
 -- Lines of CALLS.md, read. Assumes nothing.
-use mathlib.Core.List.{[], _∷_, map}
-use mathlib.Core.Path.{_≡_, refl}
+use Rattle.kit.specs.Names.{_≡_, refl, [], _∷_, map}
 use Rattle.rules.specs.declared.call.Call.the-variants.{New, Join}
 use Rattle.words.specs.Bytes.{bytes, sameBytes}
 use Rattle.parser.specs.Command.{commandOf, fit}

@@ -1,9 +1,5 @@
 -- Which line is which command: CALLS.md, sentence by sentence and in its order.
-use mathlib.Core.Bool.{Bool, true, false, cond, _&&_}
-use mathlib.Core.List.{List, [], _∷_}
-use Prim.Native.Nat.{ℕ}
-use lib.Dec.{eqb}
-use lib.ListN.{getD}
+use Rattle.kit.specs.Names.{Bool, true, false, cond, _&&_, List, [], _∷_, ℕ, getD, eqb}
 use Rattle.words.specs.Line.{placeIn, words}
 use Rattle.words.specs.Numeral.{decimal, isNumeral}
 use Rattle.commands.specs.Forms.{Form, formAt, limit, names, Width, few, long, short}

@@ -1,8 +1,6 @@
 // A line as a command: its name has a place in the table of forms, and that place says how wide the numbers may be and
 // what they make.
-ghost use mathlib.Core.Path.{_≡_};
-ghost use Prim.Native.Nat.{_≤_};
-ghost use lib.ListN.{length, drop};
+ghost use Rattle.kit.specs.Names.{_≡_, _≤_, length, drop};
 ghost use Rattle.parser.specs.Command.{commandOf, commandWith, limitOf};
 ghost use Rattle.commands.specs.Forms.{formAt, names};
 ghost use Rattle.words.specs.Line.{placeIn, words};

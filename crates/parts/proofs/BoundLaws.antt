@@ -1,8 +1,5 @@
 -- Where the lent parts fit one another, every row and every entry lies within them. Assumes nothing.
-use mathlib.Core.Path.{_≡_}
-use Prim.Native.Nat.{ℕ, _*_, _≤_, _<_}
-use native.Mathlib.Omega.{arith}
-use lib.ListN.{length}
+use Rattle.kit.specs.Names.{_≡_, ℕ, _*_, _≤_, _<_, length, arith}
 use Rattle.rules.specs.Numbers.{CROWN, ENTRY, MAX-ENTRIES}
 use Rattle.rules.specs.Lent.{Rows, Log}
 use Rattle.parts.specs.Bounds.{InRows, Even, InLog}

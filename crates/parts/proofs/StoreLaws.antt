@@ -1,7 +1,5 @@
 -- An entry's numbers, stored. Assumes nothing.
-use mathlib.Core.Path.{_≡_}
-use Prim.Native.Nat.{ℕ, _+_, _*_}
-use lib.ListN.{set}
+use Rattle.kit.specs.Names.{_≡_, ℕ, _+_, _*_, set}
 use Rattle.rules.specs.declared.table.UndoLog.{UndoLog}
 use Rattle.rules.specs.Numbers.{ENTRY}
 use Rattle.rules.specs.Lent.{Log, putOld, putEntry}

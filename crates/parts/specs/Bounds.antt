@@ -1,7 +1,5 @@
 -- What the leaves ask of their callers: that an index lies within what is lent.
-use mathlib.Core.Path.{_≡_}
-use Prim.Native.Nat.{ℕ, _+_, _*_, _≤_, _<_}
-use lib.ListN.{length}
+use Rattle.kit.specs.Names.{_≡_, ℕ, _+_, _*_, _≤_, _<_, length}
 use Rattle.rules.specs.declared.table.UndoLog.{UndoLog}
 use Rattle.rules.specs.declared.table.UndoLog.the-variants.{NewElem, SetElem, Unknown}
 use Rattle.rules.specs.Numbers.{CROWN, ENTRY, MAX-ENTRIES}

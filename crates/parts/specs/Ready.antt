@@ -1,7 +1,5 @@
 -- What carrying out a plan asks of the memory: rows within what is lent, and room in the log.
-use mathlib.Core.Path.{_≡_}
-use Prim.Native.Nat.{ℕ, _+_, _*_, _≤_}
-use lib.ListN.{length}
+use Rattle.kit.specs.Names.{_≡_, ℕ, _+_, _*_, _≤_, length}
 use Rattle.rules.specs.Numbers.{MAX-ENTRIES, ENTRY}
 use Rattle.rules.specs.Write.{Memory}
 use Rattle.parts.specs.Bounds.{Even}

@@ -1,6 +1,4 @@
-ghost use mathlib.Core.Path.{_≡_};
-ghost use Prim.Native.Nat.{_+_, _≤_};
-ghost use lib.ListN.{length};
+ghost use Rattle.kit.specs.Names.{_≡_, _+_, _≤_, length};
 ghost use Rattle.rules.specs.Numbers.{ENTRY};
 ghost use Rattle.rules.specs.Lent.{oldAt, putOld, entryAt, putEntry};
 ghost use Rattle.rules.specs.Contract.{logLent};
@@ -19,7 +17,7 @@ pub fn old_at(log: &[u32], base: usize) -> Row
     requires { ⌜ base + ENTRY ≤ length (now log) ⌝ }
     ensures { let l = logLent log in λ r. ⌜ r ≡ oldAt (l .entry) base ⌝ }
 {
-    let owner = rules::owner::owner_of(log[base + 4]);
+    let owner = makers::owner::owner_of(log[base + 4]);
     let amount = crate::amounts::amount_of(log[base + 5], log[base + 6]);
     Row {
         parent: log[base + 2],
@@ -35,7 +33,7 @@ pub fn put_old(log: &mut [u32], base: usize, row: Row)
     ensures { let l = logLent log in λ r. ⌜ l .exit ≡ putOld (l .entry) base row ⌝ }
 {
     let owner = row.owner;
-    let number = rules::owner::number_of(owner);
+    let number = makers::owner::number_of(owner);
     let low = crate::amounts::low_of(row.amount);
     let high = crate::amounts::high_of(row.amount);
     log[base + 2] = row.parent;

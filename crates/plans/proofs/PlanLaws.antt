@@ -1,9 +1,5 @@
 -- Laws of verdicts: what they write, and whether it fits the log. Assumes nothing.
-use mathlib.Core.Path.{_≡_, refl, sym}
-use mathlib.Core.Bool.{Bool, true, false}
-use mathlib.Core.List.{List, _++_, append-nil}
-use Prim.Native.Nat.{ℕ, _+_}
-use lib.ListN.{length}
+use Rattle.kit.specs.Names.{_≡_, refl, sym, Bool, true, false, List, _++_, append-nil, ℕ, _+_, length}
 use Rattle.rules.specs.declared.call.Answer.{Answer}
 use Rattle.rules.specs.Numbers.{LOG-FULL}
 use Rattle.rules.specs.Write.{Write}

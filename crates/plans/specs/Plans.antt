@@ -1,10 +1,5 @@
 -- A call's plan as the code has it, made of where its walks lead: what the rules make of the same walks.
-use mathlib.Core.Path.{_≡_}
-use mathlib.Core.Bool.{Bool, false, cond}
-use mathlib.Core.List.{List, [], _∷_, _++_}
-use Prim.Native.Nat.{ℕ, _+_, _-_, _<_}
-use lib.ListN.{length}
-use lib.Dec.{eqb, ltb}
+use Rattle.kit.specs.Names.{_≡_, Bool, false, cond, List, [], _∷_, _++_, ℕ, _+_, _-_, _<_, length, eqb, ltb}
 use Rattle.rules.specs.declared.table.Row.{Row}
 use Rattle.rules.specs.declared.table.Value.{Value}
 use Rattle.rules.specs.Numbers.{LOG-FULL}

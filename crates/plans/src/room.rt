@@ -1,6 +1,4 @@
-ghost use mathlib.Core.Path.{_≡_};
-ghost use Prim.Native.Nat.{_≤_, _<_};
-ghost use lib.ListN.{length};
+ghost use Rattle.kit.specs.Names.{_≡_, _≤_, _<_, length};
 ghost use Rattle.plans.specs.Plans.{finishOf, lacks, fitted};
 use crate::verdict::Finish;
 use crate::verdict::Verdict;

@@ -1,33 +1,17 @@
 // Answers, rows and entries, printed from place `at` of a buffer on. Each function answers the place after
 // what it wrote. The caller leaves room: no answer, row or entry is longer than `ROOM`.
-ghost use Prim.Native.Nat.{_+_, _≤_};
-ghost use lib.ListN.{length};
+ghost use Rattle.kit.specs.Names.{_+_, _≤_, length};
 ghost use Rattle.words.specs.Bytes.{bytes as text};
 ghost use Rattle.digits.specs.Printed.{Printed, Wrote};
-ghost use Rattle.print.specs.Texts.{answerText, cellText, rowText, kindText, markText, stateText, errorText};
-use digits::put::put_byte;
+ghost use Rattle.print.specs.Texts.{cellText, rowText, kindText, markText, stateText};
 use digits::put::put_bytes;
 use digits::put::put_list;
 use digits::put::put_next;
-use digits::put::put_number;
-use rules::answer::answer_numbers;
-use rules::call::Answer;
 use rules::table::Mark;
 use rules::table::State;
 
 // The most that one piece takes.
 pub const ROOM: usize = 256;
-
-// An answer.
-pub fn put_answer(out: &mut [u8], at: usize, answer: Answer) -> usize
-    requires { ⌜ at + 256 ≤ length (now out) ⌝ }
-    ensures { λ r. ⌜ Printed (now (out .entry)) (now (out .exit)) at (answerText answer) r ⌝ }
-    ensures { λ r. ⌜ Wrote at 256 r ⌝ }
-{
-    let numbers = answer_numbers(answer);
-    let second = put_number(out, at, numbers[0]);
-    put_list(out, second, &numbers[1..])
-}
 
 // A lent number, or that there is none at this place.
 pub enum Cell {
@@ -108,15 +92,4 @@ pub fn put_state(out: &mut [u8], at: usize, state: State) -> usize
     let first = put_bytes(out, at, b" state");
     let marks = put_list(out, first, &numbers);
     put_bytes(out, marks, b" marks")
-}
-
-// `error` and the line's number, with a line feed.
-pub fn put_error(out: &mut [u8], at: usize, line: u64) -> usize
-    requires { ⌜ at + 256 ≤ length (now out) ⌝ }
-    ensures { λ r. ⌜ Printed (now (out .entry)) (now (out .exit)) at (errorText line) r ⌝ }
-    ensures { λ r. ⌜ Wrote at 256 r ⌝ }
-{
-    let number = put_bytes(out, at, b"error");
-    let end = put_next(out, number, line);
-    put_byte(out, end, b'\n')
 }

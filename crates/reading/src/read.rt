@@ -1,20 +1,13 @@
-ghost use mathlib.Core.List.{List};
-ghost use mathlib.Core.Path.{_≡_};
-ghost use Prim.Native.Nat.{ℕ, _≤_, _<_};
-ghost use lib.ListN.{length};
-ghost use Rattle.rules.specs.Contract.{tableLent};
+ghost use Rattle.kit.specs.Names.{_≡_, List, ℕ, _<_};
 ghost use Rattle.lines.specs.Lines.{line, reached};
-ghost use Rattle.reading.specs.Turn.{beginning, filled, took, taking, lineNumber, endsAt, nextLine, replying, answering, turned, turning};
-use arrays::lent::nothing;
+ghost use Rattle.reading.specs.Taking.{beginning, filled, took, taking, lineNumber, endsAt, nextLine};
+use arrays::lengths::nothing;
 use arrays::reply::Changed;
 use commands::command::Lengths;
 use damage::damage::fresh;
 use lines::gather::Gathered;
 use lines::gather::gather;
-use lines::line::command_of;
-use memory::change::change;
 use rules::table::State;
-use say::say::say;
 
 // A list of calls that is being read: what goes from line to line, the line so far, and the part of the input that is at hand.
 pub struct Reading {
@@ -50,70 +43,8 @@ pub fn begin() -> Reading
     }
 }
 
-// One turn: more input where there is none at hand, then bytes up to a line's end, and where it is reached, the line's answer.
-// What is read nobody knows before; where some is at hand, nothing is.
-pub fn turn(
-    reading: Reading,
-    parents: &mut [u32],
-    crowns: &mut [u32],
-    amounts: &mut [u64],
-    log: &mut [u32],
-    input: &mut [u8],
-    line: &mut [u8],
-    out: &mut [u8],
-) -> Reading
-    requires { ⌜ 256 ≤ length (now out) ⌝ }
-    ensures { let t = tableLent parents crowns amounts log in
-        λ r. ⌜ turned r (t .exit) (now (line .exit)) (now (out .exit))
-        ≡ turning reading (t .entry) (now (line .entry)) (now (out .entry)) (now (input .exit)) (r .count) ⌝ }
-    ensures { λ r. ⌜ (reading .from < reading .count → now (input .exit) ≡ now (input .entry)) ⌝ }
-{
-    let filled = refill(reading, input);
-    let got = take(filled, input, line);
-    if !got.ended {
-        return got;
-    }
-    answer(got, parents, crowns, amounts, log, line, out)
-}
-
-// A line's command carried out, and its reply printed.
-fn answer(
-    reading: Reading,
-    parents: &mut [u32],
-    crowns: &mut [u32],
-    amounts: &mut [u64],
-    log: &mut [u32],
-    line: &[u8],
-    out: &mut [u8],
-) -> Reading
-    requires { ⌜ 256 ≤ length (now out) ⌝ }
-    ensures { let t = tableLent parents crowns amounts log in
-        λ r. ⌜ replying r (t .exit) (now (out .exit)) ≡ answering reading (t .entry) (now (line .entry)) (now (out .entry)) ⌝ }
-{
-    let lengths = reading.lengths;
-    let state = reading.state;
-    let command = command_of(line, reading.n, reading.overlong);
-    let changed = change(lengths, state, parents, crowns, amounts, log, command);
-    let after_lengths = changed.lengths;
-    let after = changed.state;
-    let reply = changed.reply;
-    let at = say(
-        out,
-        reading.at,
-        after_lengths,
-        after,
-        parents,
-        crowns,
-        amounts,
-        log,
-        reply,
-        reading.line,
-    );
-    next_line(reading, changed, at)
-}
-
 // More input, where none is at hand and there is any.
-fn refill(reading: Reading, input: &mut [u8]) -> Reading
+pub fn refill(reading: Reading, input: &mut [u8]) -> Reading
     ensures { λ r. ⌜ r ≡ filled reading (r .count) ⌝ }
     ensures { λ r. ⌜ (reading .from < reading .count → now (input .exit) ≡ now (input .entry)) ⌝ }
 {
@@ -130,7 +61,7 @@ fn refill(reading: Reading, input: &mut [u8]) -> Reading
 }
 
 // Gathers bytes of a line. It ends at a line feed, or with the input, if it has begun.
-fn take(reading: Reading, input: &[u8], line: &mut [u8]) -> Reading
+pub fn take(reading: Reading, input: &[u8], line: &mut [u8]) -> Reading
     ensures { λ r. ⌜ took r (now (line .exit)) ≡ taking reading (now (line .entry)) (now (input .entry)) ⌝ }
 {
     let got = gather(
@@ -173,7 +104,7 @@ fn line_number(line: u64, ended: bool) -> u64
 }
 
 // Ready for the next line.
-fn next_line(reading: Reading, changed: Changed, at: usize) -> Reading
+pub fn next_line(reading: Reading, changed: Changed, at: usize) -> Reading
     ensures { λ r. ⌜ r ≡ nextLine reading (changed .lengths) (changed .state) at ⌝ }
 {
     let lengths = changed.lengths;

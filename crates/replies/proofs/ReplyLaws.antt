@@ -1,8 +1,5 @@
 -- Laws of the replies' texts. Assumes nothing.
-use mathlib.Core.List.{[], _∷_}
-use mathlib.Core.Path.{_≡_, refl}
-use Prim.Native.Nat.{ℕ, _≤_, _<_}
-use borrow.Author.Tests.{lt-ltb, le-ltb}
+use Rattle.kit.specs.Names.{_≡_, refl, [], _∷_, ℕ, _≤_, _<_, lt-ltb, le-ltb}
 use denote.Enum.Declared.{tagOf}
 use types.Run.{OneOf, miss}
 use Rattle.rules.proofs.call.Call.{the-type}

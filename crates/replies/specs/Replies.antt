@@ -1,8 +1,5 @@
 -- The lines of the several replies, piece by piece: CALLS.md, in its order.
-use mathlib.Core.Bool.{cond}
-use mathlib.Core.List.{List, [], _∷_, _++_}
-use Prim.Native.Nat.{ℕ, min}
-use lib.Dec.{ltb}
+use Rattle.kit.specs.Names.{cond, List, [], _∷_, _++_, ℕ, min, ltb}
 use Rattle.rules.specs.declared.call.Answer.{Answer}
 use Rattle.rules.specs.declared.call.Call.{Call}
 use Rattle.rules.specs.declared.call.Call.the-variants.{New, Len, Find, Unioned, Join, Post, Probe, ProbeKey, TryProbe, Snapshot, Rollback, Commit, Keys, Actions, Changes}

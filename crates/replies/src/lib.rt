@@ -1,3 +1,2 @@
 // The lines of the several replies, printed over what is lent.
-pub mod head;
 pub mod parts;

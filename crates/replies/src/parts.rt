@@ -1,17 +1,14 @@
 // The lines that answer: an error, a call's answer, a row, and all that there is.
-ghost use mathlib.Core.Path.{_≡_};
-ghost use mathlib.Core.List.{[], _∷_};
-ghost use Prim.Native.Nat.{_≤_};
-ghost use lib.ListN.{length};
+ghost use Rattle.kit.specs.Names.{_≡_, [], _∷_, _≤_, length};
 ghost use Rattle.rules.specs.Contract.{rowsLent, logLent, tableLent};
 ghost use Rattle.rules.specs.Lent.{Log};
 ghost use Rattle.print.specs.Texts.{errorText};
 ghost use Rattle.show.specs.Pieces.{Said};
 ghost use Rattle.replies.specs.Replies.{onward, answerPieces, lookPieces, shownPieces};
 ghost use Rattle.show.specs.Shown.{sincePieces};
-use print::print::put_answer;
-use print::print::put_error;
 use print::print::put_state;
+use print_answer::answer::put_answer;
+use print_answer::answer::put_error;
 use rules::call::Answer;
 use rules::call::Call;
 use rules::table::Head;

@@ -1,11 +1,5 @@
 -- Laws of logging a walk's rows before they are rewritten. Assumes nothing.
-use mathlib.Core.Path.{_≡_, refl, ap, sym, _∙_}
-use mathlib.Core.List.{List, [], _∷_}
-use Prim.Native.Nat.{ℕ, suc, _+_, _-_, _≤_, _<_}
-use native.Mathlib.Omega.{arith}
-use lib.ListN.{length, getD, take, drop, length-take}
-use lib.Seq.{drop-cons, getD-take}
-use borrow.Author.Tests.{eq-eqb}
+use Rattle.kit.specs.Names.{_≡_, refl, ap, sym, _∙_, List, [], _∷_, ℕ, suc, _+_, _-_, _≤_, _<_, length, getD, take, drop, length-take, drop-cons, getD-take, arith, eq-eqb}
 use Rattle.rules.specs.Numbers.{MAX-REDIRECTS}
 use Rattle.rules.specs.Lent.{Rows, Log}
 use Rattle.rules.specs.Write.{Memory, memory}

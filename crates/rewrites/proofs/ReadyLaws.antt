@@ -1,12 +1,5 @@
 -- Laws of memory that is ready for writes, and of writes one after the other. Assumes nothing.
-use mathlib.Core.Path.{_≡_, refl, ap, subst⁻¹, _∙_}
-use mathlib.Core.Bool.{Bool, true, false, cond}
-use mathlib.Core.List.{List, [], _∷_, _++_}
-use Prim.Native.Nat.{ℕ, suc, _+_, _-_, _≤_, _<_}
-use native.Mathlib.Omega.{arith}
-use lib.ListN.{length, length-set}
-use lib.Dec.{eqb}
-use borrow.Author.Tests.{ne-eqb}
+use Rattle.kit.specs.Names.{_≡_, refl, ap, subst⁻¹, _∙_, Bool, true, false, cond, List, [], _∷_, _++_, ℕ, suc, _+_, _-_, _≤_, _<_, length, length-set, eqb, arith, ne-eqb}
 use Rattle.rules.specs.declared.table.UndoLog.{UndoLog}
 use Rattle.rules.specs.declared.table.UndoLog.the-variants.{SetElem}
 use Rattle.rules.specs.Lent.{Rows, Log, rowAt, putEntry}

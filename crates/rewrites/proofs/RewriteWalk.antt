@@ -1,9 +1,5 @@
 -- A walk's rewrites: nothing for fewer than two steps, else the logged rows and the compressed parents. Assumes nothing.
-use mathlib.Core.Path.{_≡_, refl, ap, sym, _∙_}
-use mathlib.Core.List.{List, [], _∷_}
-use Prim.Native.Nat.{ℕ, _-_, _≤_, _<_}
-use native.Mathlib.Omega.{arith}
-use lib.ListN.{length, getD}
+use Rattle.kit.specs.Names.{_≡_, refl, ap, sym, _∙_, List, [], _∷_, ℕ, _-_, _≤_, _<_, length, getD, arith}
 use Rattle.rules.specs.Numbers.{MAX-REDIRECTS}
 use Rattle.rules.specs.Walk.{path}
 use Rattle.rules.specs.Write.{Write, Memory, memory, puts}

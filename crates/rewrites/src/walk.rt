@@ -1,5 +1,4 @@
-ghost use mathlib.Core.Path.{_≡_};
-ghost use Prim.Native.Nat.{_-_};
+ghost use Rattle.kit.specs.Names.{_≡_, _-_};
 ghost use Rattle.rules.specs.Contract.{memoryNow, memoryLent};
 ghost use Rattle.rules.specs.Write.{puts};
 ghost use Rattle.roots.specs.Trail.{passedOf, walkOf, Sound};

@@ -1,11 +1,5 @@
 -- What a rollback is at each of its ends, and what its functions ask of their callers. Assumes nothing.
-use mathlib.Core.Path.{_≡_, refl}
-use mathlib.Core.Bool.{Bool, true, false, cond, not, _||_}
-use mathlib.Core.List.{List}
-use Prim.Native.Nat.{ℕ, _≤_}
-use native.Mathlib.Omega.{arith}
-use lib.Dec.{ltb}
-use borrow.Author.Tests.{ltb-false, not-false}
+use Rattle.kit.specs.Names.{_≡_, refl, Bool, true, false, cond, not, _||_, List, ℕ, _≤_, ltb, arith, ltb-false, not-false}
 use Rattle.rules.specs.declared.call.Call.the-variants.{Rollback}
 use Rattle.rules.specs.declared.table.Head.{Head}
 use Rattle.rules.specs.declared.table.Mark.{Mark}

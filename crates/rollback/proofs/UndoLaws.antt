@@ -1,13 +1,6 @@
 -- Entries that are read and undone one at a time, newest first. Assumes nothing.
-use mathlib.Core.Path.{_≡_, refl, ap, sym, _∙_}
-use mathlib.Core.Bool.{Bool, true, false, _&&_}
-use mathlib.Core.List.{List, [], _∷_}
-use Prim.Native.Nat.{ℕ, zero, suc, _+_, _-_, _≤_, _<_}
-use native.Mathlib.Omega.{arith}
-use native.Mathlib.Decide.{ℕ-discrete}
-use lib.ListN.{length, length-set}
-use lib.Dec.{eqb, ltb}
-use borrow.Author.Tests.{eq-eqb, ne-eqb, eqb-true, ltb-true}
+use Rattle.kit.specs.Names.{_≡_, refl, ap, sym, _∙_, Bool, true, false, _&&_, List, [], _∷_, ℕ, zero, suc, _+_, _-_, _≤_, _<_, length, length-set, eqb, ltb, arith, ℕ-discrete, eq-eqb, ne-eqb}
+use Rattle.kit.specs.Names.{eqb-true, ltb-true}
 use Rattle.rules.specs.declared.table.UndoLog.{UndoLog}
 use Rattle.rules.specs.declared.table.UndoLog.the-variants.{NewElem, SetElem, Unknown}
 use Rattle.rules.specs.Lent.{Rows, Log, entryAt}

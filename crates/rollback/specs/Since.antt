@@ -1,8 +1,5 @@
 -- The entries since a snapshot: that they lie in what is lent, and what one of them means for those before it.
-use mathlib.Core.Bool.{Bool, false, not, _||_}
-use mathlib.Core.List.{List, [], _∷_}
-use Prim.Native.Nat.{ℕ, _+_, _<_}
-use lib.Dec.{eqb, ltb}
+use Rattle.kit.specs.Names.{Bool, false, not, _||_, List, [], _∷_, ℕ, _+_, _<_, eqb, ltb}
 use Rattle.rules.specs.declared.table.Head.{Head}
 use Rattle.rules.specs.declared.table.Mark.{Mark}
 use Rattle.rules.specs.declared.table.UndoLog.{UndoLog}

@@ -1,12 +1,10 @@
 // The entries since a snapshot, read and undone newest first.
-ghost use mathlib.Core.Path.{_≡_};
-ghost use Prim.Native.Nat.{_-_, _≤_};
-ghost use Rattle.rules.specs.Tokens.{newestFirst, undoable, undo};
-ghost use Rattle.rules.specs.Contract.{rowsNow, rowsLent, logLent};
-ghost use Rattle.rollback.specs.Since.{Logged, Reversible, allowed, countBefore};
+ghost use Rattle.kit.specs.Names.{_≡_, _-_, _≤_};
+ghost use Rattle.rules.specs.Tokens.{newestFirst, undoable};
+ghost use Rattle.rules.specs.Contract.{logLent};
+ghost use Rattle.rollback.specs.Since.{Logged, allowed, countBefore};
 use parts::entries::entry_at;
 use rules::table::UndoLog;
-use snapshot_vec::update::reverse;
 
 // Whether an entry can be undone where `count` keys are left: a new row has to be the last, a changed row has to be there.
 fn allowed(entry: UndoLog, count: u32) -> bool
@@ -52,28 +50,4 @@ pub fn undoable(log: &[u32], base: u32, used: u32, keys: u32, count: u32) -> boo
         reached = count_before(entry, reached);
     }
     reached == keys
-}
-
-// Undoes the entries from `base` up to `used`.
-pub fn undo(
-    parents: &mut [u32],
-    crowns: &mut [u32],
-    amounts: &mut [u64],
-    log: &[u32],
-    base: u32,
-    used: u32,
-)
-    requires { ⌜ base ≤ used ⌝ }
-    requires { ⌜ Logged used (now log) ⌝ }
-    requires { ⌜ Reversible (rowsNow parents crowns amounts) (newestFirst (now log) base (used - base)) ⌝ }
-    ensures { let rs = rowsLent parents crowns amounts in
-        let l = logLent log in
-        λ r. ⌜ rs .exit ≡ undo (rs .entry) (newestFirst (l .entry) base (used - base)) ⌝ }
-{
-    let mut left = used - base;
-    while left > 0 {
-        left -= 1;
-        let entry = entry_at(log, base + left);
-        reverse(parents, crowns, amounts, entry);
-    }
 }

@@ -1,10 +1,5 @@
 -- Laws of the parents that a walk leaves off its path, and of a path's first row and root. Assumes nothing.
-use mathlib.Core.Path.{_≡_, refl, ap, sym, _∙_}
-use mathlib.Core.List.{List, [], _∷_}
-use Prim.Native.Nat.{ℕ, suc, _-_, _<_}
-use native.Mathlib.Omega.{arith}
-use lib.ListN.{length, getD}
-use lib.Seq.{getD-set-other}
+use Rattle.kit.specs.Names.{_≡_, refl, ap, sym, _∙_, List, [], _∷_, ℕ, suc, _-_, _<_, length, getD, getD-set-other, arith}
 use Rattle.rules.specs.Walk.{to, path}
 use Rattle.roots.specs.Trail.{compress}
 use Rattle.roots.proofs.PathLaws.{path-root}

@@ -1,13 +1,5 @@
 -- A walk of at most one redirect leads where the rules' walk leads. Assumes nothing.
-use mathlib.Core.Path.{_≡_, ap, sym, _∙_}
-use mathlib.Core.Bool.{true, false, not}
-use mathlib.Core.List.{List, [], _∷_}
-use Prim.Native.Nat.{ℕ, zero, suc, _≤_, _<_}
-use native.Mathlib.Omega.{arith}
-use native.Mathlib.Decide.{ℕ-discrete, decLt}
-use lib.ListN.{getD}
-use lib.Dec.{eqb}
-use borrow.Author.Tests.{le-leb, lt-leb, eq-eqb, ne-eqb, eqb-true, not-false}
+use Rattle.kit.specs.Names.{_≡_, ap, sym, _∙_, true, false, not, List, [], _∷_, ℕ, zero, suc, _≤_, _<_, getD, eqb, arith, ℕ-discrete, decLt, le-leb, lt-leb, eq-eqb, ne-eqb, eqb-true, not-false}
 use Rattle.rules.specs.Numbers.{MAX-REDIRECTS}
 use Rattle.rules.specs.Walk.{to, path}
 use Rattle.roots.specs.declared.near.Near.{Near}

@@ -1,10 +1,5 @@
 -- The rows of a path are distinct. Assumes nothing.
-use mathlib.Core.Path.{_≡_, ap, sym, _∙_}
-use mathlib.Core.List.{List, [], _∷_}
-use Prim.Native.Nat.{ℕ, zero, suc, _-_, _<_}
-use native.Mathlib.Omega.{arith}
-use native.Mathlib.Decide.{ℕ-discrete}
-use lib.ListN.{length, getD, drop, length-drop}
+use Rattle.kit.specs.Names.{_≡_, ap, sym, _∙_, List, [], _∷_, ℕ, zero, suc, _-_, _<_, length, getD, drop, length-drop, arith, ℕ-discrete}
 use Rattle.rules.specs.Walk.{to, path}
 use Rattle.roots.proofs.PathLaws.{path-root}
 use Rattle.roots.proofs.WalkLaws.{path-in, path-back}

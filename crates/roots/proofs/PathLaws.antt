@@ -1,12 +1,6 @@
 -- Laws of `path`. Assumes nothing.
-use mathlib.Core.Path.{_≡_, refl, ap}
-use mathlib.Core.List.{List, [], _∷_, _++_, append-nil}
-use Prim.Native.Nat.{ℕ, zero, suc, _+_, _-_, _≤_, _<_}
-use native.Mathlib.Omega.{arith}
-use lib.ListN.{length, getD, take, set}
-use lib.Seq.{take-suc-set, getD-set-same, take-set-le}
-use native.Mathlib.Numerals.{add-one}
-use borrow.Author.Tests.{lt-ltb, le-ltb, eq-eqb, ne-eqb}
+use Rattle.kit.specs.Names.{_≡_, refl, ap, List, [], _∷_, _++_, append-nil, ℕ, zero, suc, _+_, _-_, _≤_, _<_, length, getD, take, set, take-suc-set, getD-set-same, take-set-le, arith, add-one}
+use Rattle.kit.specs.Names.{lt-ltb, le-ltb, eq-eqb, ne-eqb}
 use Rattle.rules.specs.Walk.{Path, broken, to, from, path}
 
 module _ (ps : List ℕ) (count key : ℕ) where

@@ -1,9 +1,5 @@
 -- What a walk's writes leave: of the rows, the parents; of the log, the old rows. Assumes nothing.
-use mathlib.Core.Path.{_≡_, refl, ap, sym, _∙_}
-use mathlib.Core.List.{List, [], _∷_, _++_}
-use Prim.Native.Nat.{ℕ, _+_, _-_}
-use native.Mathlib.Omega.{arith}
-use lib.ListN.{length, getD, set, length-append}
+use Rattle.kit.specs.Names.{_≡_, refl, ap, sym, _∙_, List, [], _∷_, _++_, ℕ, _+_, _-_, length, getD, set, length-append, arith}
 use Rattle.rules.specs.declared.table.UndoLog.the-variants.{SetElem}
 use Rattle.rules.specs.Lent.{Rows, rowAt}
 use Rattle.rules.specs.Walk.{to, path}

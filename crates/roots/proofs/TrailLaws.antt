@@ -1,11 +1,5 @@
 -- A trail that was traced is a walk that can be made. Assumes nothing.
-use mathlib.Core.Path.{_≡_, sym, ap, _∙_}
-use mathlib.Core.Bool.{true, false}
-use mathlib.Core.List.{List, [], _∷_}
-use Prim.Native.Nat.{ℕ, _-_, _<_}
-use native.Mathlib.Omega.{arith}
-use lib.ListN.{length, getD, length-take}
-use lib.Seq.{getD-take}
+use Rattle.kit.specs.Names.{_≡_, sym, ap, _∙_, true, false, List, [], _∷_, ℕ, _-_, _<_, length, getD, length-take, getD-take, arith}
 use Rattle.rules.specs.Numbers.{MAX-REDIRECTS}
 use Rattle.rules.specs.Lent.{Rows}
 use Rattle.rules.specs.Walk.{broken, to, path}

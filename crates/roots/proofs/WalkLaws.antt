@@ -1,10 +1,5 @@
 -- Laws of a path's ends and of a walk along it. Assumes nothing.
-use mathlib.Core.Path.{_≡_, refl, ap, sym, _∙_}
-use mathlib.Core.List.{List, [], _∷_}
-use Prim.Native.Nat.{ℕ, zero, suc, _-_, _≤_, _<_}
-use native.Mathlib.Omega.{arith}
-use native.Mathlib.Decide.{decLt, ℕ-discrete}
-use lib.ListN.{length, getD, set}
+use Rattle.kit.specs.Names.{_≡_, refl, ap, sym, _∙_, List, [], _∷_, ℕ, zero, suc, _-_, _≤_, _<_, length, getD, set, arith, decLt, ℕ-discrete}
 use Rattle.rules.specs.Walk.{Path, broken, to, from, path}
 use Rattle.roots.specs.Trail.{Leads, Landed, landed, land, compress}
 use Rattle.roots.proofs.PathLaws.{path-out, path-root, path-spent, path-more}

@@ -1,9 +1,5 @@
 -- A walk of at most one redirect rewrites nothing: document 01, "k = 0 or 1 writes nothing."
-use mathlib.Core.Bool.{Bool, true, false, cond}
-use mathlib.Core.List.{List}
-use Prim.Native.Nat.{ℕ}
-use lib.ListN.{getD}
-use lib.Dec.{eqb, leb}
+use Rattle.kit.specs.Names.{Bool, true, false, cond, List, ℕ, getD, eqb, leb}
 use Rattle.roots.specs.declared.near.Near.{Near}
 
 abbrev pub near : Bool → ℕ → ℕ → Near

@@ -1,7 +1,6 @@
 -- A walk's effect in two parts: its old rows are logged, the nearest to the root first, and then parents are rewritten. The rows of
 -- a path are distinct, so the memory afterwards is that of logging and writing row by row.
-use mathlib.Core.List.{List, [], _∷_}
-use Prim.Native.Nat.{ℕ}
+use Rattle.kit.specs.Names.{List, [], _∷_, ℕ}
 use Rattle.rules.specs.declared.table.UndoLog.the-variants.{SetElem}
 use Rattle.rules.specs.Lent.{Rows, rowAt}
 use Rattle.rules.specs.Write.{Memory, logged}

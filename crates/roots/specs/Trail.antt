@@ -1,9 +1,5 @@
 -- A walk as the code has it: a trail of nodes, and the parents after the walk.
-use mathlib.Core.Path.{_≡_}
-use mathlib.Core.Bool.{cond}
-use mathlib.Core.List.{List, [], _∷_}
-use Prim.Native.Nat.{ℕ, _≤_, _<_}
-use lib.ListN.{length, getD, take, set}
+use Rattle.kit.specs.Names.{_≡_, cond, List, [], _∷_, ℕ, _≤_, _<_, length, getD, take, set}
 use Rattle.rules.specs.Numbers.{MAX-REDIRECTS}
 use Rattle.rules.specs.Walk.{Path, broken, to, path}
 use Rattle.rules.specs.Write.{Write}

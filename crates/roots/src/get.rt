@@ -1,5 +1,4 @@
-ghost use mathlib.Core.Path.{_≡_};
-ghost use Prim.Native.Nat.{_-_, _<_};
+ghost use Rattle.kit.specs.Names.{_≡_, _-_, _<_};
 ghost use Rattle.rules.specs.Walk.{path};
 ghost use Rattle.roots.specs.Trail.{Leads, landed, land};
 

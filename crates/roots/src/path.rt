@@ -1,6 +1,4 @@
-ghost use mathlib.Core.Path.{_≡_};
-ghost use Prim.Native.Nat.{_≤_};
-ghost use lib.ListN.{length};
+ghost use Rattle.kit.specs.Names.{_≡_, _≤_, length};
 ghost use Rattle.rules.specs.Numbers.{MAX-REDIRECTS};
 ghost use Rattle.rules.specs.Walk.{path};
 ghost use Rattle.roots.specs.Trail.{traced, Short};

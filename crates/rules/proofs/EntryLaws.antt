@@ -1,11 +1,5 @@
 -- Laws of entries: what is put is read back. Assumes nothing.
-use mathlib.Core.Path.{_≡_, refl, _∙_}
-use mathlib.Core.List.{[], _∷_}
-use Prim.Native.Nat.{ℕ, _+_, _*_, _≤_, _<_}
-use native.Mathlib.Omega.{arith}
-use lib.ListN.{length, length-set, getD, set}
-use lib.Seq.{getD-set-same, getD-set-other}
-use borrow.Author.Tests.{eq-eqb, ne-eqb}
+use Rattle.kit.specs.Names.{_≡_, refl, _∙_, [], _∷_, ℕ, _+_, _*_, _≤_, _<_, length, length-set, getD, set, getD-set-same, getD-set-other, arith, eq-eqb, ne-eqb}
 use Rattle.rules.specs.declared.table.Owner.the-variants.{Tenant}
 use Rattle.rules.specs.declared.table.UndoLog.the-variants.{NewElem, SetElem}
 use Rattle.rules.specs.Numbers.{ENTRY, KIND-NEW, KIND-SET}

@@ -1,8 +1,5 @@
 -- Document 01, "Examples": those marked *, 1 to 13, as one statement over a list of calls and what is expected afterwards.
-use mathlib.Core.Path.{_≡_, refl}
-use mathlib.Core.List.{List, [], _∷_, _++_, map}
-use Prim.Native.Nat.{ℕ, _*_}
-use lib.ListN.{replicate}
+use Rattle.kit.specs.Names.{_≡_, refl, List, [], _∷_, _++_, map, ℕ, _*_, replicate}
 use Rattle.rules.specs.declared.call.Call.{Call}
 use Rattle.rules.specs.declared.call.Call.the-variants.{New, Find, Join, Post, Snapshot, Rollback, Commit}
 use Rattle.rules.specs.Numbers.{CROWN, ENTRY}

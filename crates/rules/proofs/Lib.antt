@@ -1,6 +1,5 @@
 -- What is proved of the definitions.
 pub mod Examples
-pub mod AnswerLaws
 pub mod RowLaws
 pub mod EntryLaws
 pub mod StateLaws

@@ -1,12 +1,5 @@
 -- The laws of the merge. All else that is proved of it cites these, so that another merge changes this file alone. Assumes nothing.
-use mathlib.Core.Path.{_≡_, refl, sym, ap, ap₂, _∙_, subst}
-use mathlib.Core.Logic.{_≢_, _↔_, _⊎_, inl, inr}
-use mathlib.Core.Bool.{Bool, true, false, cond}
-use Prim.Native.Nat.{ℕ, _+_, _≤_, _<_}
-use native.Mathlib.Omega.{arith}
-use native.Mathlib.Decide.{ℕ-discrete}
-use lib.Dec.{ltb}
-use borrow.Author.Tests.{eq-eqb, ne-eqb, ltb-true, ltb-false}
+use Rattle.kit.specs.Names.{_≡_, refl, sym, ap, ap₂, _∙_, subst, Bool, true, false, cond, _≢_, _↔_, _⊎_, inl, inr, ℕ, _+_, _≤_, _<_, ltb, arith, ℕ-discrete, eq-eqb, ne-eqb, ltb-true, ltb-false}
 use Rattle.rules.specs.declared.table.Owner.{Owner}
 use Rattle.rules.specs.declared.table.Owner.the-variants.{Nobody, Tenant}
 use Rattle.rules.specs.declared.table.Value.{Value}

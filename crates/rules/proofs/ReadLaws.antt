@@ -1,14 +1,5 @@
 -- What is read after a row or an entry is written: at its place what was written, elsewhere what was there. Assumes nothing.
-use mathlib.Core.Path.{_≡_, refl, ap, _∙_}
-use mathlib.Core.Logic.{_≢_}
-use mathlib.Core.List.{List, [], _∷_}
-use Prim.Native.Nat.{ℕ, _+_, _*_, _<_}
-use native.Mathlib.Omega.{arith}
-use native.Mathlib.Decide.{ℕ-discrete}
-use lib.ListN.{length, length-set, getD, set}
-use lib.Dec.{lit<}
-use lib.Seq.{getD-set-same, getD-set-other}
-use borrow.Author.Tests.{eq-eqb, ne-eqb}
+use Rattle.kit.specs.Names.{_≡_, refl, ap, _∙_, List, [], _∷_, _≢_, ℕ, _+_, _*_, _<_, length, length-set, getD, set, lit<, getD-set-same, getD-set-other, arith, ℕ-discrete, eq-eqb, ne-eqb}
 use Rattle.rules.specs.declared.table.Owner.{Owner}
 use Rattle.rules.specs.declared.table.Owner.the-variants.{Nobody, Tenant}
 use Rattle.rules.specs.declared.table.Row.{Row}

@@ -1,12 +1,5 @@
 -- Laws of rows: what a write leaves, part by part. Assumes nothing.
-use mathlib.Core.Path.{_≡_, refl}
-use mathlib.Core.List.{List, [], _∷_}
-use Prim.Native.Nat.{ℕ, _+_, _*_}
-use native.Mathlib.Omega.{arith}
-use native.Mathlib.Decide.{ℕ-discrete}
-use lib.ListN.{set, getD}
-use lib.Seq.{set-getD, set-set, set-comm}
-use borrow.Author.Tests.{ne-eqb}
+use Rattle.kit.specs.Names.{_≡_, refl, List, [], _∷_, ℕ, _+_, _*_, set, getD, set-getD, set-set, set-comm, arith, ℕ-discrete, ne-eqb}
 use Rattle.rules.specs.declared.table.Row.{Row}
 use Rattle.rules.specs.declared.table.UndoLog.the-variants.{SetElem}
 use Rattle.rules.specs.declared.table.Value.{Value}

@@ -1,14 +1,8 @@
 -- What BAD_STATE shuts out, as facts. Assumes nothing.
-use mathlib.Core.Path.{_≡_, refl}
-use mathlib.Core.Bool.{Bool, true, false, cond, not}
-use mathlib.Core.List.{List, [], _∷_}
-use Prim.Native.Nat.{ℕ, _*_, _%_, _/_, _≤_}
-use native.Mathlib.Decide.{ℕ-discrete}
-use lib.Dec.{ltb, eqb}
-use borrow.Author.Tests.{le-ltb, eq-eqb, ne-eqb, ltb-false, eqb-true, not-false}
+use Rattle.kit.specs.Names.{_≡_, refl, _∙_, Bool, true, false, cond, not, List, [], _∷_, ℕ, _*_, _%_, _/_, _≤_, ltb, eqb, ℕ-discrete, le-ltb, eq-eqb, ne-eqb, ltb-false, eqb-true, not-false}
 use Rattle.rules.specs.declared.table.Head.{Head}
 use Rattle.rules.specs.Numbers.{MAX-ROWS, MAX-ENTRIES, MAX-OPEN, CROWN, ENTRY}
-use Rattle.rules.specs.Refusal.{Sizes, any, differ, faults, bad}
+use Rattle.rules.specs.Refusal.{Sizes, any, differ, stray, faults, bad}
 
 -- Every row has its parent, its crown and its amount, and the log ends with an entry; all within the limits.
 pub record Level (z : Sizes) : Type 0 where
@@ -48,21 +42,38 @@ unused o u e q = same u 0 (rw (eq-eqb o 0 q) at e)
 idle : (o u : ℕ) → (o ≡ 0 → u ≡ 0) → cond (eqb o 0) (differ u 0) false ≡ false
 idle o u h = elim (ℕ-discrete o 0) [ yes q ↦ rw (eq-eqb o 0 q, eq-eqb u 0 (h q)) | no n ↦ rw (ne-eqb o 0 n) ]
 
+-- All of `Good` but that nothing is used where nothing is open: a damaged outermost mark can leave that after a rollback.
+pub record Roomy (z : Sizes) (h : Head) : Type 0 where
+  pub level : Level z
+  pub count : h .count ≤ z .parents
+  pub used : h .used ≤ z .log / ENTRY
+  pub opened : h .«open» ≤ MAX-OPEN
+
+as-tested : (b : Bool) → cond b true false ≡ b
+as-tested true = refl
+as-tested false = refl
+
 module _ (z : Sizes) (h : Head) where
-  pub good-bad : Good z h → bad z h ≡ false
+  -- What is left to be tested of a roomy head decides.
+  pub roomy-bad : Roomy z h → bad z h ≡ stray h
   unfolding bad
-  good-bad g =
+  roomy-bad r =
       rw (
-        le-ltb MAX-ROWS (z .parents) (g .level .rows),
-        le-ltb (MAX-ENTRIES * ENTRY) (z .log) (g .level .log),
-        eq-eqb (z .crowns) (z .parents * CROWN) (g .level .crowns),
-        eq-eqb (z .amounts) (z .parents) (g .level .amounts),
-        eq-eqb (z .log % ENTRY) 0 (g .level .whole),
-        le-ltb (z .parents) (h .count) (g .count),
-        le-ltb (z .log / ENTRY) (h .used) (g .used),
-        le-ltb MAX-OPEN (h .«open») (g .opened),
-        idle (h .«open») (h .used) (g .shut),
-      )
+        le-ltb MAX-ROWS (z .parents) (r .level .rows),
+        le-ltb (MAX-ENTRIES * ENTRY) (z .log) (r .level .log),
+        eq-eqb (z .crowns) (z .parents * CROWN) (r .level .crowns),
+        eq-eqb (z .amounts) (z .parents) (r .level .amounts),
+        eq-eqb (z .log % ENTRY) 0 (r .level .whole),
+        le-ltb (z .parents) (h .count) (r .count),
+        le-ltb (z .log / ENTRY) (h .used) (r .used),
+        le-ltb MAX-OPEN (h .«open») (r .opened),
+      ) (as-tested (stray h))
+
+  pub good-roomy : Good z h → Roomy z h
+  good-roomy g = record { level = g .level; count = g .count; used = g .used; opened = g .opened }
+
+  pub good-bad : Good z h → bad z h ≡ false
+  good-bad g = roomy-bad (good-roomy g) ∙ idle (h .«open») (h .used) (g .shut)
 
   pub bad-good : bad z h ≡ false → Good z h
   unfolding bad

@@ -1,7 +1,5 @@
 -- Document 01, what a call answers: a refusal's answer, what stands in its place on DONE, and the state that is handed back.
-use mathlib.Core.Bool.{Bool, true, false, cond}
-use mathlib.Core.List.{List, [], _∷_}
-use Prim.Native.Nat.{ℕ}
+use Rattle.kit.specs.Names.{Bool, true, false, cond, List, [], _∷_, ℕ}
 use Rattle.rules.specs.declared.call.Answer.{Answer}
 use Rattle.rules.specs.declared.call.Answered.{Answered}
 use Rattle.rules.specs.declared.table.State.{State}

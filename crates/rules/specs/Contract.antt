@@ -1,7 +1,5 @@
 -- How a function's contract speaks of a table: the four lent slices, at entry and at exit.
-use mathlib.Core.List.{List}
-use Prim.Native.Nat.{ℕ}
-use denote.Ref.{RefT, now}
+use Rattle.kit.specs.Names.{List, ℕ, RefT, now}
 use denote.Triple.Both.{Both}
 use Rattle.rules.specs.declared.call.Answered.{Answered}
 use Rattle.rules.specs.declared.table.State.{State}
@@ -13,8 +11,8 @@ use Rattle.rules.specs.Refusal.{Outcome, outcome}
 abbrev pub Slice : Type 0
 Slice = RefT (List ℕ)
 
-abbrev pub Lent : Type 0
-Lent = Both Slice Slice
+abbrev pub BothEnds : Type 0
+BothEnds = Both Slice Slice
 
 abbrev pub rowsNow : Slice → Slice → Slice → Rows
 rowsNow p c a = record { parents = now p; crowns = now c; amounts = now a }
@@ -27,21 +25,21 @@ abbrev pub tableNow : Slice → Slice → Slice → Slice → State → Table
 tableNow p c a l = table (rowsNow p c a) (now l)
 
 -- In an `ensures`: the rows, the log, the memory and the table at both ends.
-abbrev pub rowsLent : Lent → Lent → Lent → Both Rows Rows
+abbrev pub rowsLent : BothEnds → BothEnds → BothEnds → Both Rows Rows
 rowsLent p c a =
     record { entry = rowsNow (p .entry) (c .entry) (a .entry); exit = rowsNow (p .exit) (c .exit) (a .exit) }
 
-abbrev pub logLent : Lent → Both Log Log
+abbrev pub logLent : BothEnds → Both Log Log
 logLent l = record { entry = now (l .entry); exit = now (l .exit) }
 
-abbrev pub memoryLent : Lent → Lent → Lent → Lent → Both (ℕ → ℕ → Memory) (ℕ → ℕ → Memory)
+abbrev pub memoryLent : BothEnds → BothEnds → BothEnds → BothEnds → Both (ℕ → ℕ → Memory) (ℕ → ℕ → Memory)
 memoryLent p c a l =
     record {
       entry = memoryNow (p .entry) (c .entry) (a .entry) (l .entry);
       exit = memoryNow (p .exit) (c .exit) (a .exit) (l .exit);
     }
 
-abbrev pub tableLent : Lent → Lent → Lent → Lent → Both (State → Table) (State → Table)
+abbrev pub tableLent : BothEnds → BothEnds → BothEnds → BothEnds → Both (State → Table) (State → Table)
 tableLent p c a l =
     record {
       entry = tableNow (p .entry) (c .entry) (a .entry) (l .entry);

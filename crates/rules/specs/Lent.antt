@@ -1,9 +1,5 @@
 -- Document 01, "The meter's table": rows, log and state, as numbers that the host lends and hands on.
-use mathlib.Core.Bool.{cond}
-use mathlib.Core.List.{List}
-use Prim.Native.Nat.{ℕ, _+_, _*_, _%_, _/_}
-use lib.ListN.{length, getD, set, replicate}
-use lib.Dec.{eqb}
+use Rattle.kit.specs.Names.{cond, List, ℕ, _+_, _*_, _%_, _/_, length, getD, set, replicate, eqb}
 use Rattle.rules.specs.declared.table.Owner.{Owner}
 use Rattle.rules.specs.declared.table.Owner.the-variants.{Nobody, Tenant}
 use Rattle.rules.specs.declared.table.Value.{Value}

@@ -1,7 +1,5 @@
 -- Document 01, "Rules of the rows", Merge: "two different named owners clash. One named owner wins over none. Amounts add exactly."
-use mathlib.Core.Bool.{cond}
-use Prim.Native.Nat.{ℕ, _+_}
-use lib.Dec.{eqb, ltb}
+use Rattle.kit.specs.Names.{cond, ℕ, _+_, eqb, ltb}
 use Rattle.rules.specs.declared.table.Owner.{Owner}
 use Rattle.rules.specs.declared.table.Owner.the-variants.{Nobody, Tenant}
 use Rattle.rules.specs.declared.table.Value.{Value}

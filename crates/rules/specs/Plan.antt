@@ -1,8 +1,5 @@
 -- Document 01, "Rules of the rows": what a call on rows would answer and write, were there room in the log.
-use mathlib.Core.Bool.{Bool, false, cond, _||_}
-use mathlib.Core.List.{List, [], _∷_, _++_}
-use Prim.Native.Nat.{ℕ, _+_}
-use lib.Dec.{eqb, ltb}
+use Rattle.kit.specs.Names.{Bool, false, cond, _||_, List, [], _∷_, _++_, ℕ, _+_, eqb, ltb}
 use Rattle.rules.specs.declared.call.Answer.{Answer}
 use Rattle.rules.specs.declared.table.Value.{Value}
 use Rattle.rules.specs.declared.table.Merged.{Merged}

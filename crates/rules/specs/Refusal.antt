@@ -1,9 +1,5 @@
 -- Document 01, "Numbers of refusal": BAD_STATE over all that is lent, and what a refusal leaves.
-use mathlib.Core.Bool.{Bool, true, false, cond, not}
-use mathlib.Core.List.{List, [], _∷_}
-use Prim.Native.Nat.{ℕ, _*_, _%_, _/_}
-use lib.ListN.{length}
-use lib.Dec.{eqb, ltb}
+use Rattle.kit.specs.Names.{Bool, true, false, cond, not, List, [], _∷_, ℕ, _*_, _%_, _/_, length, eqb, ltb}
 use Rattle.rules.specs.declared.call.Answer.{Answer}
 use Rattle.rules.specs.declared.table.Head.{Head}
 use Rattle.rules.specs.Numbers.{LOG-FULL, MAX-ROWS, MAX-ENTRIES, MAX-OPEN, CROWN, ENTRY}
@@ -53,6 +49,10 @@ any (b ∷ bs) = cond b true (any bs)
 abbrev pub differ : ℕ → ℕ → Bool
 differ a b = not (eqb a b)
 
+-- "nothing open and used not 0"
+abbrev pub stray : Head → Bool
+stray h = cond (eqb (h .«open») 0) (differ (h .used) 0) false
+
 -- "rows or log above the limits, lent parts of unequal length, count above rows, used above log, open above 32, or nothing open
 -- and used not 0". Parts are of unequal length where not every row has its parent, its crown and its amount, or the log ends inside
 -- an entry (docs/DECISIONS.md, 2).
@@ -66,7 +66,7 @@ faults z h =
     ∷ ltb (z .parents) (h .count)
     ∷ ltb (z .log / ENTRY) (h .used)
     ∷ ltb MAX-OPEN (h .«open»)
-    ∷ cond (eqb (h .«open») 0) (differ (h .used) 0) false
+    ∷ stray h
     ∷ []
 
 unfoldable pub bad : Sizes → Head → Bool

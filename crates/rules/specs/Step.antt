@@ -1,8 +1,5 @@
 -- Document 01, call by call: the order of refusals is "9, then 1 (first key, then second), 6 or 11, 7, 10, 2, 8, 3, 4, 5."
-use mathlib.Core.Bool.{Bool, not, _||_}
-use Prim.Native.Nat.{ℕ, _+_}
-use lib.ListN.{length}
-use lib.Dec.{eqb, leb}
+use Rattle.kit.specs.Names.{Bool, not, _||_, ℕ, _+_, length, eqb, leb}
 use Rattle.rules.specs.declared.call.Call.{Call}
 use Rattle.rules.specs.declared.call.Call.the-variants.{New, Len, Find, Unioned, Join, Post, Probe, ProbeKey, TryProbe, Snapshot, Rollback, Commit, Keys, Actions, Changes}
 use Rattle.rules.specs.declared.call.Answered.{Answered}

@@ -1,9 +1,5 @@
 -- Document 01, "Rules of the log and the tokens": marks, what is undone, and what lies since a snapshot.
-use mathlib.Core.Bool.{Bool, true, false, cond, _&&_, _||_}
-use mathlib.Core.List.{List, [], _∷_}
-use Prim.Native.Nat.{ℕ, zero, suc, _+_, _-_, _*_}
-use lib.ListN.{set, take, drop}
-use lib.Dec.{eqb, ltb}
+use Rattle.kit.specs.Names.{Bool, true, false, cond, _&&_, _||_, List, [], _∷_, ℕ, zero, suc, _+_, _-_, _*_, set, take, drop, eqb, ltb}
 use Rattle.rules.specs.declared.table.UndoLog.{UndoLog}
 use Rattle.rules.specs.declared.table.UndoLog.the-variants.{NewElem, SetElem, Unknown}
 use Rattle.rules.specs.declared.table.Mark.{Mark}

@@ -1,9 +1,5 @@
 -- Document 01, "Rules of the rows", Walk: "follow parents to the root."
-use mathlib.Core.Bool.{cond}
-use mathlib.Core.List.{List, [], _∷_}
-use Prim.Native.Nat.{ℕ, zero, suc}
-use lib.ListN.{length, getD}
-use lib.Dec.{eqb, ltb}
+use Rattle.kit.specs.Names.{cond, List, [], _∷_, ℕ, zero, suc, length, getD, eqb, ltb}
 
 -- Where a walk leads: to a root, past the rows that it followed a redirect from, its own key's first.
 -- BROKEN_TABLE: "a walk meets a parent not below the count, or is at no root after 16 redirects".

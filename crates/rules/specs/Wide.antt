@@ -1,7 +1,5 @@
 -- Lent parts that fit one another: room for so many rows, and for so many entries.
-use mathlib.Core.Path.{_≡_}
-use Prim.Native.Nat.{ℕ, _*_}
-use lib.ListN.{length}
+use Rattle.kit.specs.Names.{_≡_, ℕ, _*_, length}
 use Rattle.rules.specs.Numbers.{CROWN, ENTRY}
 use Rattle.rules.specs.Lent.{Rows, Log}
 

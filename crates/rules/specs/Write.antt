@@ -1,8 +1,5 @@
 -- What is written to rows, and what is logged of it: document 01, "Rules of the rows" and "Rules of the log and the tokens".
-use mathlib.Core.Bool.{Bool, false, cond}
-use mathlib.Core.List.{List, [], _∷_}
-use Prim.Native.Nat.{ℕ, _+_, _-_}
-use lib.Dec.{eqb, ltb}
+use Rattle.kit.specs.Names.{Bool, false, cond, List, [], _∷_, ℕ, _+_, _-_, eqb, ltb}
 use Rattle.rules.specs.declared.table.Value.{Value}
 use Rattle.rules.specs.declared.table.Row.{Row}
 use Rattle.rules.specs.declared.table.UndoLog.{UndoLog}

@@ -1,7 +1,5 @@
 // The types that every crate shares, the limits and the numbers of refusal, and the answers' makers.
 // What they mean is in specs/: document 01 as definitions.
-pub mod answer;
 pub mod call;
 pub mod numbers;
-pub mod owner;
 pub mod table;

@@ -1,22 +1,24 @@
 -- A list of calls on lent numbers is a run of the rules' step. Assumes nothing.
-use mathlib.Core.Path.{_≡_, refl, sym, ap, _∙_}
-use mathlib.Core.Bool.{true}
-use mathlib.Core.List.{List, [], _++_}
-use Prim.Native.Nat.{ℕ, suc, _+_, _*_, _≤_, _<_}
-use native.Mathlib.Omega.{arith}
-use lib.ListN.{length, drop}
-use lib.Seq.{sets, drop-length}
+use Rattle.kit.specs.Names.{_≡_, refl, sym, ap, _∙_, subst, Bool, true, false, cond, _&&_, _||_, List, [], _++_, ℕ, zero, suc, _+_, _-_, _*_, _≤_, _<_, length, drop, sets, ltb, drop-length, arith}
 use Rattle.rules.specs.declared.call.Answer.{Answer}
 use Rattle.rules.specs.declared.call.Call.{Call}
-use Rattle.rules.specs.Lent.{Table}
-use Rattle.rules.specs.Answer.{answerNumbers}
-use Rattle.rules.specs.Refusal.{Outcome, outcome}
+use Rattle.rules.specs.declared.table.Head.{Head}
+use Rattle.rules.specs.declared.call.Call.the-variants.{Rollback, Keys}
+use Rattle.rules.specs.declared.table.Sought.{Sought}
+use Rattle.rules.specs.declared.table.Sought.the-variants.{Missing}
+use Rattle.rules.specs.declared.table.State.{State}
+use Rattle.rules.specs.Lent.{Table, table, headOf}
+use Rattle.rules.specs.Numbers.{BAD-STATE}
+use Rattle.rules.specs.Answer.{refusal, answerNumbers}
+use Rattle.rules.specs.Refusal.{Outcome, outcome, sizesOf, stray, bad, badTable}
 use Rattle.rules.specs.Step.{step}
-use Rattle.layout.specs.State.{Sized}
-use Rattle.layout.proofs.LayoutLaws.{numbers-state}
-use Rattle.coding.specs.Coding.{callList, isListed, callsIn, callAt}
+use Rattle.bad_state.proofs.GoodLaws.{bad-after}
+use Rattle.layout.specs.State.{Sized, headIn, stateBy, headed}
+use Rattle.layout.proofs.LayoutLaws.{no-mark, commit-mark, actions-mark, changes-mark, numbers-state, headed-state, headed-length, headed-same}
+use Rattle.undo_log.specs.Settled.{markOf, markFor}
+use Rattle.coding.specs.Coding.{Asked, nothing, asked, CODES, formOf, fits, isAsked, askedOf, callIn, callList, isListed, callsIn, callAt}
 use Rattle.coding.specs.Answers.{answersNumbers}
-use Rattle.coding.proofs.CodingLaws.{Next, next-call}
+use Rattle.coding.proofs.CodingLaws.{known, made, Next, next-call}
 use Rattle.runs.specs.Run.{run}
 use Rattle.runs.specs.Served.{Host, host, tableOf, served}
 
@@ -107,3 +109,103 @@ module _ (h₀ h : Host) (l : List ℕ) (at to : ℕ) (g : Going h₀ h l at to)
       ap (λ (x : List ℕ). sets (h .answers) to (answersNumbers (run (tableOf h) (callsIn (callList x)) .answers))) (sym none) ∙ g .answers in
       let b = numbers-state (h .numbers) (h .serials) (g .sized) in
       rw (← t, ← a, b .0, b .1)
+
+-- ---- with the head by value
+
+pub refused-bad : (t : Table) (c : Call) → badTable t ≡ true → outcome (refusal BAD-STATE) t ≡ step t c
+unfolding step
+refused-bad t c e = rw e
+
+-- All that is lent, with the head that is at hand written.
+abbrev pub written-host : Head → Host → Host
+written-host hd h = host (headed (h .numbers) hd) (h .serials) (h .rows) (h .log) (h .answers)
+
+-- The calls go on as they would if it were, and whether the table is bad is known.
+pub record Keeping (h₀ : Host) (hd : Head) (b : Bool) (h : Host) (l : List ℕ) (at to : ℕ) : Type 0 where
+  pub going : Going h₀ (written-host hd h) l at to
+  pub sized : Sized (h .numbers) (h .serials)
+  pub is-bad : b ≡ bad (sizesOf (h .rows) (h .log)) hd
+
+pub keeping-starts : (h : Host) (l : List ℕ) → Sized (h .numbers) (h .serials) → isListed (callList l) ≡ true
+    → 9 * length l ≤ 4 * length (h .answers) → (hd : Head) (b : Bool) → hd ≡ headIn (h .numbers) → b ≡ bad (sizesOf (h .rows) (h .log)) hd
+    → Keeping h hd b h l 0 0
+keeping-starts h l z c r hd b e q =
+    let same : h .numbers ≡ headed (h .numbers) hd = sym (ap (headed (h .numbers)) e ∙ headed-same (h .numbers) (z .numbers)) in
+    record {
+      going = subst (λ (ns : List ℕ). Going h (host ns (h .serials) (h .rows) (h .log) (h .answers)) l 0 0) same (going-starts h l z c r);
+      sized = z;
+      is-bad = q;
+    }
+
+-- The table of a head at hand.
+abbrev pub tableBy : Head → Host → Table
+tableBy hd h = table (h .rows) (h .log) (stateBy hd (h .numbers) (h .serials))
+
+written : (h : Host) (hd : Head) → Sized (h .numbers) (h .serials)
+    → tableOf (written-host hd h) ≡ tableBy hd h
+written h hd z = ap {B = Table} (table (h .rows) (h .log)) (headed-state (h .numbers) (h .serials) hd (z .numbers))
+
+module _ (h₀ : Host) (hd : Head) (b : Bool) (h : Host) (l : List ℕ) (at to : ℕ) (k : Keeping h₀ hd b h l at to) where
+  pub keeping-on : at < length l → (h′ : Host) (a : Answer) (hd′ : Head) (b′ : Bool) → outcome a (tableBy hd′ h′) ≡ step (tableBy hd h) (callAt l at)
+      → h′ .answers ≡ sets (h .answers) to (answerNumbers a) → Kept h h′ → b′ ≡ (b || stray hd′) → Keeping h₀ hd′ b′ h′ l (at + 4) (to + 9)
+  keeping-on i h′ a hd′ b′ e w m q =
+      let z : Sized (h′ .numbers) (h′ .serials) = omega (arith, m, k .sized) in
+      let u : tableBy hd′ h′ ≡ step (tableBy hd h) (callAt l at) .table = ap (λ (x : Outcome). x .table) e in
+      let o = ap {B = Outcome} (outcome a) (written h′ hd′ z) ∙ e ∙ ap {B = Outcome} (λ (x : Table). step x (callAt l at)) (sym (written h hd (k .sized))) in
+      record {
+        going = going-on h₀ (written-host hd h) l at to (k .going) i (written-host hd′ h′) a (callAt l at) refl o w
+            (omega (arith, m, headed-length (h .numbers) hd, headed-length (h′ .numbers) hd′));
+        sized = z;
+        is-bad = q
+            ∙ subst (λ (x : Table). (b || stray (headOf (x .state))) ≡ badTable x) (sym u) (bad-after (tableBy hd h) (callAt l at) b (k .is-bad));
+      }
+
+-- ---- codes that name no token
+
+module _ (s : State) (a b c : ℕ) where
+  form-names-none : (code : ℕ) → code < 10 → Missing ≡ markOf s (formOf code a b c .1)
+  form-names-none zero h = refl
+  form-names-none (suc zero) h = refl
+  form-names-none (suc (suc zero)) h = refl
+  form-names-none (suc (suc (suc zero))) h = refl
+  form-names-none (suc (suc (suc (suc zero)))) h = refl
+  form-names-none (suc (suc (suc (suc (suc zero))))) h = refl
+  form-names-none (suc (suc (suc (suc (suc (suc zero)))))) h = refl
+  form-names-none (suc (suc (suc (suc (suc (suc (suc zero))))))) h = refl
+  form-names-none (suc (suc (suc (suc (suc (suc (suc (suc zero)))))))) h = refl
+  form-names-none (suc (suc (suc (suc (suc (suc (suc (suc (suc zero))))))))) h = refl
+  form-names-none (suc (suc (suc (suc (suc (suc (suc (suc (suc (suc n)))))))))) h = absurd (omega arith)
+
+  -- What is no call reads as one that names none either.
+  asked-none : (x : Call) (fine : Bool) → Missing ≡ markOf s x → Missing ≡ markOf s (callIn (cond fine (asked x) nothing))
+  asked-none x true e = e
+  asked-none x false e = refl
+
+  pub code-names-none : (code : ℕ) → code < 10 → Missing ≡ markFor s (callIn (askedOf code a b c))
+  unfolding askedOf
+  code-names-none code h =
+      no-mark s (callIn (askedOf code a b c))
+      (asked-none (formOf code a b c .1) (ltb code CODES && fits (formOf code a b c .0) a b c) (form-names-none code h))
+
+-- ---- codes that name one
+
+module _ (s : State) (code a b c : ℕ) (e : isAsked (askedOf code a b c) ≡ true) where
+  asked-form : formOf code a b c .1 ≡ callIn (askedOf code a b c)
+  asked-form = made code a b c e (record { most = refl; call = λ q. refl })
+
+  closes : (k : ℕ) → code ≡ 10 + k → k < 2 → markFor s (Rollback a) ≡ markFor s (formOf code a b c .1)
+  closes zero q h = rw q
+  closes (suc zero) q h = rw q (commit-mark s a)
+  closes (suc (suc k)) q h = absurd (omega arith)
+
+  asks : (k : ℕ) → code ≡ 12 + k → k < 3 → markFor s (Keys a) ≡ markFor s (formOf code a b c .1)
+  asks zero q h = rw q
+  asks (suc zero) q h = rw q (actions-mark s a)
+  asks (suc (suc zero)) q h = rw q (changes-mark s a)
+  asks (suc (suc (suc k))) q h = absurd (omega arith)
+
+  pub code-closes : 10 ≤ code → code < 12 → markFor s (Rollback a) ≡ markFor s (callIn (askedOf code a b c))
+  code-closes g h = closes (code - 10) (omega arith) (omega arith) ∙ ap {B = Sought} (markFor s) asked-form
+
+  pub code-asks : 12 ≤ code → markFor s (Keys a) ≡ markFor s (callIn (askedOf code a b c))
+  code-asks g = let k = known code a b c e in asks (code - 12) (omega arith) (omega arith) ∙ ap {B = Sought} (markFor s) asked-form

@@ -1,12 +1,9 @@
 -- All the lists that the host lends, and what calls that are carried out leave of them.
-use mathlib.Core.List.{List}
-use Prim.Native.Nat.{ℕ}
-use lib.Seq.{sets}
-use denote.Ref.{now}
+use Rattle.kit.specs.Names.{List, ℕ, sets, now}
 use denote.Triple.Both.{Both}
 use Rattle.rules.specs.declared.call.Call.{Call}
 use Rattle.rules.specs.Lent.{Rows, Log, Table, table}
-use Rattle.rules.specs.Contract.{Slice, Lent, rowsNow}
+use Rattle.rules.specs.Contract.{Slice, BothEnds, rowsNow}
 use Rattle.layout.specs.State.{stateOf, stateNumbers, stateSerials}
 use Rattle.coding.specs.Answers.{answersNumbers}
 use Rattle.runs.specs.Run.{run}
@@ -37,7 +34,7 @@ served h cs =
 abbrev pub hostNow : Slice → Slice → Slice → Slice → Slice → Slice → Slice → Host
 hostNow ns ss p c a l answers = host (now ns) (now ss) (rowsNow p c a) (now l) (now answers)
 
-abbrev pub hostLent : Lent → Lent → Lent → Lent → Lent → Lent → Lent → Both Host Host
+abbrev pub hostLent : BothEnds → BothEnds → BothEnds → BothEnds → BothEnds → BothEnds → BothEnds → Both Host Host
 hostLent ns ss p c a l answers =
     record {
       entry = hostNow (ns .entry) (ss .entry) (p .entry) (c .entry) (a .entry) (l .entry) (answers .entry);

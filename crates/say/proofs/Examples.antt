@@ -1,8 +1,5 @@
 -- Replies as CALLS.md has them, on one table. Assumes nothing.
-use mathlib.Core.List.{List, [], _∷_, _++_}
-use mathlib.Core.Path.{_≡_, refl}
-use Prim.Native.Nat.{ℕ}
-use lib.ListN.{replicate}
+use Rattle.kit.specs.Names.{_≡_, refl, List, [], _∷_, _++_, ℕ, replicate}
 use Rattle.rules.specs.Answer.{range}
 use Rattle.rules.specs.Lent.{Table, mark}
 use Rattle.rules.specs.declared.call.Call.the-variants.{Actions}

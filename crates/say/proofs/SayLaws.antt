@@ -1,7 +1,5 @@
 -- Laws of what a reply prints. Assumes nothing.
-use mathlib.Core.List.{List}
-use mathlib.Core.Path.{_≡_, ap}
-use Prim.Native.Nat.{ℕ}
+use Rattle.kit.specs.Names.{_≡_, ap, List, ℕ}
 use Rattle.rules.specs.declared.table.Head.{Head}
 use Rattle.rules.specs.Lent.{Table}
 use Rattle.arrays.specs.declared.reply.Reply.{Reply}

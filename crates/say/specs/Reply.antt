@@ -1,6 +1,5 @@
 -- The line that each reply prints.
-use mathlib.Core.List.{[], _∷_}
-use Prim.Native.Nat.{ℕ}
+use Rattle.kit.specs.Names.{[], _∷_, ℕ}
 use Rattle.rules.specs.declared.table.Head.{Head}
 use Rattle.rules.specs.Lent.{Table}
 use Rattle.words.specs.Bytes.{bytes}

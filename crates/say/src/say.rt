@@ -1,13 +1,12 @@
-ghost use Prim.Native.Nat.{_≤_};
-ghost use lib.ListN.{length};
+ghost use Rattle.kit.specs.Names.{_≤_, length};
 ghost use Rattle.rules.specs.Contract.{tableLent};
 ghost use Rattle.show.specs.Pieces.{Said};
 ghost use Rattle.say.specs.Reply.{replyPieces, saidPieces};
-use arrays::lent::lent;
+use arrays::lengths::at_most;
 use arrays::reply::Reply;
 use commands::command::Lengths;
-use replies::head::all_there_is;
-use replies::head::in_use;
+use extents::head::all_there_is;
+use extents::head::in_use;
 use replies::parts::answered;
 use replies::parts::error;
 use replies::parts::row;
@@ -35,10 +34,10 @@ pub fn say<'a>(
     ensures { let t = tableLent parents crowns amounts log in
         λ r. ⌜ Said (now (out .entry)) (now (out .exit)) at (saidPieces lengths (t .entry state) reply line) r ⌝ }
 {
-    let a = lent(lengths.parents, parents.len());
-    let b = lent(lengths.crowns, crowns.len());
-    let c = lent(lengths.amounts, amounts.len());
-    let d = lent(lengths.log, log.len());
+    let a = at_most(lengths.parents, parents.len());
+    let b = at_most(lengths.crowns, crowns.len());
+    let c = at_most(lengths.amounts, amounts.len());
+    let d = at_most(lengths.log, log.len());
     let all = all_there_is(a, b, c, d);
     let p = a as usize;
     let q = b as usize;

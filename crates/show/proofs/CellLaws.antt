@@ -1,9 +1,5 @@
 -- Laws of lent numbers and their texts. Assumes nothing.
-use mathlib.Core.List.{List, [], _∷_}
-use mathlib.Core.Path.{_≡_}
-use Prim.Native.Nat.{ℕ, _+_, _≤_, _<_}
-use borrow.Author.Tests.{lt-ltb, le-ltb}
-use lib.ListN.{length, getD}
+use Rattle.kit.specs.Names.{_≡_, List, [], _∷_, ℕ, _+_, _≤_, _<_, length, getD, lt-ltb, le-ltb}
 use Rattle.rules.specs.Lent.{amountOf}
 use Rattle.print.specs.Texts.{rowText, kindText}
 use Rattle.print.specs.declared.print.Cell.{Cell}

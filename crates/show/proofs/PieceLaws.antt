@@ -1,10 +1,5 @@
 -- Laws of pieces that are printed. Assumes nothing.
-use mathlib.Core.List.{List, [], _∷_, _++_}
-use mathlib.Core.Path.{_≡_, refl, ap, sym, _∙_}
-use Prim.Native.Nat.{ℕ, _+_, _≤_}
-use native.Mathlib.Numerals.{add-one}
-use lib.ListN.{length}
-use lib.Seq.{paste}
+use Rattle.kit.specs.Names.{_≡_, refl, ap, sym, _∙_, List, [], _∷_, _++_, ℕ, _+_, _≤_, length, paste, add-one}
 use Rattle.digits.specs.Printed.{Printed}
 use Rattle.show.specs.Pieces.{Page, placed, printing, Said}
 use Rattle.show.specs.Shown.{Pieces, each}

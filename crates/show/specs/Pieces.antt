@@ -1,11 +1,5 @@
 -- What is printed into the program's buffer: pieces, one after the other.
-use mathlib.Core.Bool.{cond}
-use mathlib.Core.List.{List, [], _∷_}
-use mathlib.Core.Path.{_≡_}
-use Prim.Native.Nat.{ℕ, _+_, _-_}
-use lib.Dec.{ltb}
-use lib.ListN.{length}
-use lib.Seq.{paste}
+use Rattle.kit.specs.Names.{_≡_, cond, List, [], _∷_, ℕ, _+_, _-_, length, ltb, paste}
 
 -- No piece is longer.
 abbrev pub ROOM : ℕ

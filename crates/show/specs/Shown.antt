@@ -1,15 +1,11 @@
 -- Rows, entries and marks, piece by piece: CALLS.md, in its order.
-use mathlib.Core.Bool.{cond}
-use mathlib.Core.List.{List, [], _∷_, _++_}
-use Prim.Native.Nat.{ℕ, zero, suc, _+_, _-_, _*_}
-use lib.Dec.{ltb}
-use lib.ListN.{length, getD}
+use Rattle.kit.specs.Names.{cond, List, [], _∷_, _++_, ℕ, zero, suc, _+_, _-_, _*_, length, getD, ltb}
 use Rattle.rules.specs.declared.table.State.{State}
 use Rattle.rules.specs.Lent.{Rows, Log, markAt, numberOf, amountOf}
 use Rattle.rules.specs.Numbers.{CROWN, ENTRY}
 use Rattle.rules.specs.Tokens.{viewed}
 use Rattle.parts.specs.declared.entries.Numbers.{Numbers}
-use Rattle.actions.specs.View.{lentAt}
+use Rattle.extract.specs.Numbers.{lentAt}
 use Rattle.words.specs.Bytes.{bytes}
 use Rattle.print.specs.Texts.{rowText, kindText, markText}
 use Rattle.print.specs.declared.print.Cell.{Cell}

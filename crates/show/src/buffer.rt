@@ -1,7 +1,4 @@
-ghost use mathlib.Core.Path.{_≡_};
-ghost use mathlib.Core.List.{[], _∷_};
-ghost use Prim.Native.Nat.{_+_, _≤_};
-ghost use lib.ListN.{length};
+ghost use Rattle.kit.specs.Names.{_≡_, [], _∷_, _+_, _≤_, length};
 ghost use Rattle.show.specs.Pieces.{placed, Said};
 use digits::put::put_bytes;
 

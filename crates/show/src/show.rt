@@ -1,7 +1,4 @@
-ghost use mathlib.Core.Path.{_≡_};
-ghost use mathlib.Core.List.{[], _∷_};
-ghost use Prim.Native.Nat.{_+_, _≤_, _<_, min};
-ghost use lib.ListN.{length};
+ghost use Rattle.kit.specs.Names.{_≡_, [], _∷_, _+_, _≤_, _<_, min, length};
 ghost use Rattle.rules.specs.Contract.{rowsLent, logLent};
 ghost use Rattle.print.specs.Texts.{kindText, rowText};
 ghost use Rattle.show.specs.Pieces.{Said};

@@ -1,15 +1,14 @@
 // The entries since a snapshot, printed as they are lent: each is read through the view of the log.
-ghost use Prim.Native.Nat.{_≤_};
-ghost use lib.ListN.{length};
+ghost use Rattle.kit.specs.Names.{_≤_, length};
 ghost use Rattle.rules.specs.Contract.{logLent};
 ghost use Rattle.show.specs.Pieces.{Said};
 ghost use Rattle.show.specs.Shown.{numbersPieces, sincePieces};
 use crate::show::cell;
 use crate::show::put_entry;
 use actions::view::lent_action_at;
+use makers::owner::number_of;
 use parts::entries::Numbers;
 use print::print::Cell;
-use rules::owner::number_of;
 
 // An entry's six numbers, after a bar.
 fn entry(out: &mut [u8], at: usize, numbers: Numbers) -> usize

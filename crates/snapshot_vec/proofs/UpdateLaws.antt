@@ -1,9 +1,5 @@
 -- Laws of writes: an entry's, and a row's, first its entry and then its parts. Assumes nothing.
-use mathlib.Core.Path.{_≡_, ap, _∙_}
-use mathlib.Core.List.{List}
-use Prim.Native.Nat.{ℕ, _+_}
-use lib.ListN.{set}
-use borrow.Author.Tests.{eq-eqb, ne-eqb}
+use Rattle.kit.specs.Names.{_≡_, ap, _∙_, List, ℕ, _+_, set, eq-eqb, ne-eqb}
 use Rattle.rules.specs.declared.table.UndoLog.{UndoLog}
 use Rattle.rules.specs.declared.table.UndoLog.the-variants.{NewElem, SetElem}
 use Rattle.rules.specs.declared.table.Row.{Row}

@@ -38,7 +38,7 @@ pub fn log_row(
     ensures { let m = memoryLent parents crowns amounts log in
         λ r. ⌜ m .exit opened r ≡ logged (SetElem i (rowAt (m .entry opened used .rows) i)) (m .entry opened used) ⌝ }
 {
-    let old = parts::rows::row_at(parents, crowns, amounts, i);
+    let old = rows::rows::row_at(parents, crowns, amounts, i);
     log_entry(log, opened, used, UndoLog::SetElem(i, old))
 }
 
@@ -84,7 +84,7 @@ pub fn crown(
     let more = log_row(parents, crowns, amounts, log, opened, used, key);
     let at = key as usize;
     let owner = value.owner;
-    parts::rows::put_crown(crowns, key, rank, owner);
+    rows::rows::put_crown(crowns, key, rank, owner);
     amounts[at] = value.amount;
     more
 }
@@ -106,7 +106,7 @@ pub fn push(
         λ r. ⌜ m .exit opened r ≡ push (m .entry opened used) key row ⌝ }
 {
     let more = log_entry(log, opened, used, UndoLog::NewElem(key));
-    parts::rows::put_row(parents, crowns, amounts, key, row);
+    rows::rows::put_row(parents, crowns, amounts, key, row);
     more
 }
 
@@ -118,7 +118,7 @@ pub fn reverse(parents: &mut [u32], crowns: &mut [u32], amounts: &mut [u64], ent
     match entry {
         UndoLog::NewElem(_) => {}
         UndoLog::SetElem(key, old) => {
-            parts::rows::put_row(parents, crowns, amounts, key, old);
+            rows::rows::put_row(parents, crowns, amounts, key, old);
         }
         UndoLog::Unknown => {}
     }

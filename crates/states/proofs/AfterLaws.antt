@@ -1,9 +1,5 @@
 -- The state that a call leaves, written out. Assumes nothing.
-use mathlib.Core.Path.{_≡_}
-use Prim.Native.Nat.{_≤_, _<_}
-use lib.ListN.{length, set}
-use lib.Seq.{set-out}
-use borrow.Author.Tests.{lt-ltb, le-ltb}
+use Rattle.kit.specs.Names.{_≡_, _≤_, _<_, length, set, set-out, lt-ltb, le-ltb}
 use Rattle.rules.specs.declared.table.State.{State}
 use Rattle.rules.specs.Lent.{mark}
 use Rattle.rules.specs.Answer.{answered}

@@ -1,17 +1,40 @@
-ghost use Rattle.rules.specs.Contract.{tableLent};
+ghost use Rattle.kit.specs.Names.{_≡_, false};
+ghost use Rattle.rules.specs.Refusal.{sizesOf, bad};
+ghost use Rattle.rules.specs.Contract.{rowsNow, tableLent};
 ghost use Rattle.undo_log.specs.HeadCalls.{headCall};
 ghost use Rattle.decisions.specs.Decided.{Carried};
+use bad_state::bad::bad_state;
+use bad_state::bad::refuse_bad;
 use decide::any::decide;
 use decisions::decision::Decision;
-use rules::answer::refusal;
 use rules::call::Call;
-use rules::numbers::BAD_STATE;
 use rules::table::Head;
 use rules::table::Sought;
 use undo_log::tokens::HeadCall;
 use undo_log::tokens::Settled;
 
-// Carries out any call, for every state with this head, this last serial and this mark in question.
+// Carries out any call where nothing is bad, for every state with this head, this last serial and this mark in question.
+pub fn call_good(
+    parents: &mut [u32],
+    crowns: &mut [u32],
+    amounts: &mut [u64],
+    log: &mut [u32],
+    head: Head,
+    last: u64,
+    sought: Sought,
+    call: Call,
+) -> Settled
+    requires { ⌜ bad (sizesOf (rowsNow parents crowns amounts) (now log)) head ≡ false ⌝ }
+    ensures { let t = tableLent parents crowns amounts log in λ r. ⌜ Carried (t .entry) (t .exit) head last sought call r ⌝ }
+{
+    let decision = decide(parents, crowns, amounts, log, head, last, sought, call);
+    match decision {
+        Decision::Near(todo) => writes::end::end(parents, crowns, amounts, log, head.count, todo),
+        Decision::Far(walk) => writes::long::far(parents, crowns, amounts, log, head, walk),
+    }
+}
+
+// Any call whatever.
 pub fn call(
     parents: &mut [u32],
     crowns: &mut [u32],
@@ -24,11 +47,10 @@ pub fn call(
 ) -> Settled
     ensures { let t = tableLent parents crowns amounts log in λ r. ⌜ Carried (t .entry) (t .exit) head last sought call r ⌝ }
 {
-    let decision = decide(parents, crowns, amounts, log, head, last, sought, call);
-    match decision {
-        Decision::Near(todo) => writes::end::end(parents, crowns, amounts, log, head.count, todo),
-        Decision::Far(walk) => writes::long::far(parents, crowns, amounts, log, head, walk),
+    if bad_state(head, parents.len(), crowns.len(), amounts.len(), log.len()) {
+        return refuse_bad(head);
     }
+    call_good(parents, crowns, amounts, log, head, last, sought, call)
 }
 
 // A call that neither reads nor writes rows and entries: what is lent is only measured.
@@ -44,9 +66,8 @@ pub fn rest(
 ) -> Settled
     ensures { let t = tableLent parents crowns amounts log in λ r. ⌜ Carried (t .entry) (t .exit) head last sought (headCall call) r ⌝ }
 {
-    if states::bad::bad_state(head, parents.len(), crowns.len(), amounts.len(), log.len()) {
-        let answer = refusal(BAD_STATE);
-        return Settled { answer, head };
+    if bad_state(head, parents.len(), crowns.len(), amounts.len(), log.len()) {
+        return refuse_bad(head);
     }
     head_calls::calls::on_head(head, last, sought, call)
 }

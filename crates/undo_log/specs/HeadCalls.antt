@@ -1,7 +1,5 @@
 -- The calls that neither read nor write rows and entries: over a state, as document 01 has them, and over a head.
-use mathlib.Core.Bool.{_||_}
-use Prim.Native.Nat.{ℕ, _+_}
-use lib.Dec.{eqb, ltb}
+use Rattle.kit.specs.Names.{_||_, ℕ, _+_, eqb, ltb}
 use Rattle.rules.specs.declared.call.Answer.{Answer}
 use Rattle.rules.specs.declared.call.Answered.{Answered}
 use Rattle.rules.specs.declared.call.Call.{Call}

@@ -1,9 +1,5 @@
 -- A call over a head and the mark in question: which mark that is, what the call leaves, and the state that this makes.
-use mathlib.Core.Bool.{Bool, cond}
-use mathlib.Core.List.{List}
-use Prim.Native.Nat.{ℕ}
-use lib.ListN.{set}
-use lib.Dec.{ltb}
+use Rattle.kit.specs.Names.{Bool, cond, List, ℕ, set, ltb}
 use Rattle.rules.specs.declared.call.Answer.{Answer}
 use Rattle.rules.specs.declared.call.Call.{Call}
 use Rattle.rules.specs.declared.call.Call.the-variants.{New, Len, Find, Unioned, Join, Post, Probe, ProbeKey, TryProbe, Snapshot, Rollback, Commit, Keys, Actions, Changes}

@@ -1,15 +1,14 @@
 // len, snapshot and commit over a head, the last serial and the mark in question.
-ghost use mathlib.Core.Path.{_≡_};
-ghost use Prim.Native.Nat.{_-_, _≤_};
+ghost use Rattle.kit.specs.Names.{_≡_, _-_, _≤_};
 ghost use Rattle.rules.specs.Numbers.{MAX-OPEN};
 ghost use Rattle.rules.specs.Answer.{refusal, range};
 ghost use Rattle.rules.specs.Tokens.{stranded, committed};
 ghost use Rattle.undo_log.specs.Settled.{settled};
 ghost use Rattle.undo_log.specs.HeadCalls.{snapshotOn, commitOn};
 use crate::marks::unfit;
-use rules::answer::opened;
-use rules::answer::range;
-use rules::answer::refusal;
+use makers::answer::opened;
+use makers::answer::range;
+use makers::answer::refusal;
 use rules::call::Answer;
 use rules::numbers::BROKEN_TABLE;
 use rules::numbers::DONE;

@@ -3,11 +3,11 @@ ghost use mathlib.Core.Path.{_≡_};
 ghost use Rattle.rules.specs.declared.call.Call.the-variants.{New, Len, Find, Unioned, Join, Post, Probe, ProbeKey, TryProbe, Snapshot, Rollback, Commit, Keys, Actions, Changes};
 ghost use Rattle.rules.specs.Contract.{tableLent, outcomeOf};
 ghost use Rattle.rules.specs.Step.{step};
-use by_value::calls::call;
-use by_value::calls::rest;
 use rules::call::Answered;
 use rules::call::Call;
 use rules::table::State;
+use table::by_value::call;
+use table::by_value::rest;
 use undo_log::tokens::HeadCall;
 
 // A new key, a root with the given owner (0 for none) and amount.

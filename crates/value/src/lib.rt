@@ -1,5 +1,4 @@
-ghost use mathlib.Core.Path.{_≡_};
-ghost use Prim.Native.Nat.{_+_};
+ghost use Rattle.kit.specs.Names.{_≡_, _+_};
 ghost use Rattle.rules.specs.Lent.{valueOf};
 ghost use Rattle.rules.specs.Merge.{summed, merge};
 use rules::numbers::MAX_U64;

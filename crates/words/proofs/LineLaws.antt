@@ -1,15 +1,6 @@
 -- Laws of a line's words. Assumes nothing.
-use mathlib.Core.Bool.{Bool, true, false, cond}
-use mathlib.Core.List.{List, [], _∷_, _++_}
-use mathlib.Core.Path.{_≡_, refl, sym, _∙_}
-use Prim.Native.Nat.{ℕ, suc, _+_, _-_, _≤_, _<_}
-use native.Mathlib.Omega.{arith}
-use native.Mathlib.Decide.{decLt}
-use native.Mathlib.Numerals.{add-one}
-use borrow.Author.Tests.{eq-eqb, eqb-true, ne-eqb}
-use lib.Dec.{eqb}
-use lib.ListN.{length, getD, take, drop, length-drop, drop-of-length-le}
-use lib.Seq.{drop-cons, take-suc, getD-drop, length-take-le}
+use Rattle.kit.specs.Names.{_≡_, refl, sym, _∙_, Bool, true, false, cond, List, [], _∷_, _++_, ℕ, suc, _+_, _-_, _≤_, _<_, length, getD, take, drop, length-drop, drop-of-length-le, eqb, drop-cons}
+use Rattle.kit.specs.Names.{take-suc, getD-drop, length-take-le, arith, decLt, add-one, eq-eqb, eqb-true, ne-eqb}
 use Rattle.words.specs.Line.{BLANK, ended, placeIn, Spans, wordsAfter, words}
 use Rattle.words.specs.Bytes.{sameBytes}
 use Rattle.words.proofs.NumeralLaws.{both}

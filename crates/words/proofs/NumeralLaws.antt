@@ -1,15 +1,6 @@
 -- Laws of a word read as a number. Assumes nothing.
-use mathlib.Core.Bool.{Bool, true, false, cond, _&&_}
-use mathlib.Core.List.{List, [], _∷_}
-use mathlib.Core.Path.{_≡_, refl}
-use Prim.Native.Nat.{ℕ, suc, _+_, _*_, _-_, _/_, _≤_, _<_}
-use native.Mathlib.Omega.{arith}
-use native.Mathlib.Numerals.{add-one}
-use native.Mathlib.Nat.{le-div-iff-mul-le, div-lt-iff-lt-mul}
-use borrow.Author.Tests.{le-leb, leb-true, lt-leb, lt-ltb}
-use lib.Dec.{leb, ltb}
-use lib.ListN.{length, getD, drop}
-use lib.Seq.{drop-cons, drop-length}
+use Rattle.kit.specs.Names.{_≡_, refl, Bool, true, false, cond, _&&_, List, [], _∷_, ℕ, suc, _+_, _*_, _-_, _/_, _≤_, _<_, length, getD, drop, leb, ltb, drop-cons, drop-length, arith, add-one}
+use Rattle.kit.specs.Names.{le-div-iff-mul-le, div-lt-iff-lt-mul, le-leb, leb-true, lt-leb, lt-ltb}
 use Rattle.words.specs.declared.number.Number.{Number}
 use Rattle.words.specs.declared.number.Number.the-variants.{Not, Value}
 use Rattle.words.specs.Numeral.{allDigits, decimal, isNumeral, numeral}

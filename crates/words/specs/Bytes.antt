@@ -1,11 +1,8 @@
 -- Text as bytes.
-use mathlib.Core.Bool.{Bool, true, false, _&&_}
-use mathlib.Core.List.{List, [], _∷_}
+use Rattle.kit.specs.Names.{Bool, true, false, _&&_, List, [], _∷_, ℕ, eqb}
 use Prim.Native.Char.{code}
-use Prim.Native.Nat.{ℕ}
 use Prim.Native.String as text
 use Prim.Native.String.{String}
-use lib.Dec.{eqb}
 
 -- the bytes of an ASCII text
 abbrev pub bytes : String → List ℕ

@@ -1,10 +1,5 @@
 -- A line's words. CALLS.md: "words separated by blanks".
-use mathlib.Core.Bool.{cond}
-use mathlib.Core.List.{List, [], _∷_, _++_}
-use mathlib.Core.Path.{_≡_}
-use Prim.Native.Nat.{ℕ, suc, _-_, _≤_, _<_}
-use lib.Dec.{eqb}
-use lib.ListN.{length, getD, take, drop}
+use Rattle.kit.specs.Names.{_≡_, cond, List, [], _∷_, _++_, ℕ, suc, _-_, _≤_, _<_, length, getD, take, drop, eqb}
 use Rattle.words.specs.Bytes.{sameBytes}
 
 abbrev pub BLANK : ℕ

@@ -1,9 +1,5 @@
 -- A word of digits read as a number, as CALLS.md has it: decimal, digits alone, below its width.
-use mathlib.Core.Bool.{Bool, true, cond, _&&_}
-use mathlib.Core.List.{List, [], _∷_}
-use Prim.Native.Nat.{ℕ, _+_, _*_, _-_}
-use lib.Dec.{leb, ltb}
-use lib.ListN.{length}
+use Rattle.kit.specs.Names.{Bool, true, cond, _&&_, List, [], _∷_, ℕ, _+_, _*_, _-_, length, leb, ltb}
 use Rattle.words.specs.declared.number.Number.{Number}
 use Rattle.words.specs.declared.number.Number.the-variants.{Not, Value}
 

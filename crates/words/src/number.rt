@@ -1,5 +1,4 @@
-ghost use mathlib.Core.Path.{_≡_};
-ghost use Prim.Native.Nat.{_≤_};
+ghost use Rattle.kit.specs.Names.{_≡_, _≤_};
 ghost use Rattle.words.specs.Numeral.{numeral};
 
 // What a word says, read as a number.

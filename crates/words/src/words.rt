@@ -1,7 +1,5 @@
 // The words of a line, by their places.
-ghost use mathlib.Core.Path.{_≡_};
-ghost use Prim.Native.Nat.{_≤_, _<_};
-ghost use lib.ListN.{length};
+ghost use Rattle.kit.specs.Names.{_≡_, _≤_, _<_, length};
 ghost use Rattle.words.specs.Line.{placeIn, Skipped, Spans, words};
 use check::same;
 

@@ -1,6 +1,5 @@
 -- What is written is used of the log. Assumes nothing.
-use mathlib.Core.Path.{_≡_, ap, _∙_}
-use Prim.Native.Nat.{ℕ}
+use Rattle.kit.specs.Names.{_≡_, ap, _∙_, ℕ}
 use Rattle.rules.specs.declared.call.Call.{Call}
 use Rattle.rules.specs.declared.table.Head.{Head}
 use Rattle.rules.specs.declared.table.Row.{Row}

@@ -1,8 +1,5 @@
 -- A long walk's plan carried out is the rules' step. Assumes nothing.
-use mathlib.Core.Path.{_≡_, ap, sym, _∙_}
-use mathlib.Core.List.{_++_}
-use Prim.Native.Nat.{ℕ}
-use native.Mathlib.Omega.{arith}
+use Rattle.kit.specs.Names.{_≡_, ap, sym, _∙_, _++_, ℕ, arith}
 use Rattle.rules.specs.declared.call.Answer.{Answer}
 use Rattle.rules.specs.declared.call.Call.{Call}
 use Rattle.rules.specs.declared.table.Head.{Head}

@@ -27,7 +27,7 @@ pub fn end(
     match what {
         End::Nothing => settled,
         End::Rows(finish) => {
-            let used = carry::out::finish(
+            let used = enact::plan::finish(
                 parents,
                 crowns,
                 amounts,
@@ -54,7 +54,7 @@ pub fn end(
             with_used(settled, used)
         }
         End::Undo(used) => {
-            rollback::undo::undo(parents, crowns, amounts, log, head.used, used);
+            undoing::undo::undo(parents, crowns, amounts, log, head.used, used);
             settled
         }
     }

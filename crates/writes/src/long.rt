@@ -1,13 +1,12 @@
-ghost use mathlib.Core.Bool.{false};
-ghost use mathlib.Core.Path.{_≡_};
+ghost use Rattle.kit.specs.Names.{_≡_, false};
 ghost use Rattle.rules.specs.Contract.{rowsNow, tableLent};
 ghost use Rattle.rules.specs.Refusal.{sizesOf, bad};
 ghost use Rattle.decisions.specs.Sorted.{walkCall, LiveKeys};
 ghost use Rattle.decisions.specs.Decided.{FarCarried};
 use decisions::sorted::WalkCall;
 use far::plan::far_plan;
+use makers::answer::refusal;
 use plans::verdict::Verdict;
-use rules::answer::refusal;
 use rules::table::Head;
 use undo_log::tokens::Settled;
 
@@ -35,7 +34,7 @@ pub fn far(
             Settled { answer, head }
         }
         Verdict::Planned(answer, finish) => {
-            let used = carry::out::carry_out(
+            let used = enact::plan::enact(
                 parents,
                 crowns,
                 amounts,

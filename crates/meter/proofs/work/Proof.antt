@@ -1,8 +1,5 @@
 -- The turns fall, and every part keeps its length. Assumes nothing.
-use mathlib.Core.Path.{_≡_, refl, _∙_}
-use native.Mathlib.Omega.{arith}
-use borrow.Author.Needs.{needs}
-use lib.ListN.{length}
+use Rattle.kit.specs.Names.{_≡_, refl, _∙_, length, arith, needs}
 use Rattle.meter.proofs.work.Statement.{statement}
 use Rattle.meter.proofs.work.Tie as tie
 
@@ -23,22 +20,21 @@ abbrev μ-loop : tie.MeasureT-loop
 abbrev done : tie.After-slice-known14 Inv-loop μ-loop → tie.After-turn Inv-loop μ-loop
 done c = c .before .before .before .before .before .before .before .before .before .before .before .before .before .before
 
-abbrev begun : tie.After-turn Inv-loop μ-loop → tie.In-loop Inv-loop μ-loop
-begun k = k .before .before .before .before .before .before .before .before .before .before
+-- where a turn began, seen from where it is called
+abbrev call-begun : tie.After-turn-arg7 Inv-loop μ-loop → tie.In-loop Inv-loop μ-loop
+call-begun c = c .before .before .before .before .before .before .before .before .before
 
-loop-holds : tie.Need-loop-holds Inv-loop μ-loop
-loop-holds c = (refl, refl, refl, refl, refl, refl, refl)
+-- the loop's head, seen from the function's end
+abbrev at-loop : tie.After-flush Inv-loop μ-loop → tie.At-loop Inv-loop μ-loop
+at-loop c = c .before .before .before
+
+abbrev begun : tie.After-turn Inv-loop μ-loop → tie.In-loop Inv-loop μ-loop
+begun k = call-begun (k .before)
 
 turn-requires : tie.Need-turn-requires Inv-loop μ-loop
 turn-requires c κs =
-    let h = c .before .before .before .before .before .before .before .before .before .before in
+    let h = call-begun c .before in
     omega (arith, h .loop .inv .6, h .before .before .before .before .before .before .before .before .before .pre)
-
-sub-turns : tie.Need-sub-turns Inv-loop μ-loop
-sub-turns c = omega (arith, begun (done c) .loop-test)
-
-loop-less : tie.Need-loop-less Inv-loop μ-loop
-loop-less c = omega (arith, begun (done c) .loop-test)
 
 loop-again : tie.Need-loop-again Inv-loop μ-loop
 loop-again c =
@@ -56,6 +52,7 @@ loop-again c =
 pub work-spec : {M : Type 1} → statement M
 work-spec =
     tie.close
-    (tie.spec Inv-loop μ-loop (λ c κs. tt) loop-holds turn-requires sub-turns loop-less loop-again (λ c κs. tt)
-    (λ c. c .before .before .before .loop .inv .0) (λ c. c .before .before .before .loop .inv .1) (λ c. c .before .before .before .loop .inv .2) (λ c. c .before .before .before .loop .inv .3)
-    (λ c. c .before .before .before .loop .inv .4) (λ c. c .before .before .before .loop .inv .5) (λ c. c .before .before .before .loop .inv .6) (search needs))
+    (tie.spec Inv-loop μ-loop (λ c κs. tt) (λ c. (refl, refl, refl, refl, refl, refl, refl)) turn-requires (λ c. omega (arith, begun (done c) .loop-test))
+    (λ c. omega (arith, begun (done c) .loop-test)) loop-again (λ c κs. tt) (λ c. at-loop c .loop .inv .0) (λ c. at-loop c .loop .inv .1)
+    (λ c. at-loop c .loop .inv .2) (λ c. at-loop c .loop .inv .3) (λ c. at-loop c .loop .inv .4) (λ c. at-loop c .loop .inv .5)
+    (λ c. at-loop c .loop .inv .6) (search needs))

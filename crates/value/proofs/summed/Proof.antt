@@ -1,8 +1,5 @@
 -- `value::summed` meets its contract. Assumes nothing.
-use Prim.Native.Nat.{_+_}
-use native.Mathlib.Omega.{arith}
-use borrow.Author.Needs.{needs}
-use borrow.Author.Tests.{lt-ltb, le-ltb}
+use Rattle.kit.specs.Names.{_+_, arith, lt-ltb, le-ltb, needs}
 use Rattle.rules.specs.Numbers.{MAX-U64}
 use Rattle.value.proofs.summed.Statement.{statement}
 use Rattle.value.proofs.summed.Tie as tie

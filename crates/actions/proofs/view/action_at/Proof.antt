@@ -1,8 +1,7 @@
 -- `view::action_at` meets its contract: what the entry's numbers say. Assumes nothing.
-use mathlib.Core.Path.{_∙_, ap}
-use borrow.Author.Needs.{needs}
+use Rattle.kit.specs.Names.{_∙_, ap, needs}
 use Rattle.rules.specs.declared.table.UndoLog.{UndoLog}
-use Rattle.actions.specs.View.{actionOf}
+use Rattle.extract.specs.Numbers.{actionOf}
 use Rattle.actions.proofs.view.action_at.Statement.{statement}
 use Rattle.actions.proofs.view.action_at.Tie as tie
 

@@ -1,9 +1,5 @@
 -- Each end is one of the definition's.
-use mathlib.Core.Path.{_≡_, sym, _∙_}
-use mathlib.Core.Bool.{true}
-use native.Mathlib.Omega.{arith}
-use borrow.Author.Needs.{needs}
-use borrow.Author.Tests.{not-true, not-false}
+use Rattle.kit.specs.Names.{_≡_, sym, _∙_, true, arith, not-true, not-false, needs}
 use Rattle.coding.specs.Coding.{Listed, callList, isListed}
 use Rattle.coding.proofs.CodingLaws.{four-each}
 use Rattle.admit.proofs.AdmitLaws.{no-numbers, no-serials, no-calls, no-room, with-room}
@@ -16,7 +12,11 @@ start f = f .before .before
 abbrev listed : tie.Start → Listed
 listed e = callList (e .args .calls .now)
 
-are-calls : (t : tie.Else3) → isListed (listed (start (t .before .before .before))) ≡ true
+-- where the lengths of numbers and serials are known to be right
+abbrev sized : tie.Else3 → tie.Else2
+sized c = c .before .before
+
+are-calls : (t : tie.Else3) → isListed (listed (start (sized t .before))) ≡ true
 are-calls t = let k = t .before in sym (k .all-calls .ensures) ∙ not-false (k .all-calls .result) (t .if3 .left)
 
 returns : tie.Need-returns
@@ -42,7 +42,7 @@ returns-3 c =
 returns-4 : tie.Need-returns-4
 returns-4 c =
     let t = c .before in
-    let g = t .before .before in
+    let g = sized t in
     let f = g .before in
     let e = start f in
     let a = e .args in
@@ -52,7 +52,7 @@ returns-4 c =
 returns-5 : tie.Need-returns-5
 returns-5 c =
     let t = c .before in
-    let g = t .before .before in
+    let g = sized t in
     let f = g .before in
     let e = start f in
     let a = e .args in

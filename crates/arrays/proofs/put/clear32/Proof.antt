@@ -1,9 +1,5 @@
 -- The invariant: what is left to be cleared makes the whole. Assumes nothing.
-use mathlib.Core.Path.{_≡_, _∙_}
-use Prim.Native.Nat.{_-_}
-use native.Mathlib.Omega.{arith}
-use borrow.Author.Needs.{needs}
-use lib.ListN.{length, length-set}
+use Rattle.kit.specs.Names.{_≡_, _∙_, _-_, length, length-set, arith, needs}
 use Rattle.arrays.specs.Room.{zeroed}
 use Rattle.arrays.proofs.PutLaws.{clear-turn, clear-all, clear-past}
 use Rattle.arrays.proofs.put.clear32.Statement.{statement}
@@ -16,12 +12,13 @@ abbrev μ-loop : tie.MeasureT-loop
 μ-loop part₀ from to end i₀ part i = end - i
 
 returns : tie.Need-returns Inv-loop μ-loop
-returns c = let loop = c .before .before .loop in clear-past (loop .part) (loop .i) (c .before .before .before .args .to) (omega arith) ∙ loop .inv .1
+returns c = let head = c .before .before in let loop = head .loop in clear-past (loop .part) (loop .i) (head .before .args .to) (omega arith) ∙ loop .inv .1
 
 loop-again : tie.Need-loop-again Inv-loop μ-loop
 loop-again c =
-    let loop = c .before .before .loop in
-    (simp length-set (omega arith), clear-turn (loop .part) (loop .i) (c .before .before .before .args .to) (omega arith) ∙ loop .inv .1)
+    let head = c .before .before in
+    let loop = head .loop in
+    (simp length-set (omega arith), clear-turn (loop .part) (loop .i) (head .before .args .to) (omega arith) ∙ loop .inv .1)
 
 returns-2 : tie.Need-returns-2 Inv-loop μ-loop
 returns-2 c = let loop = c .before .loop in clear-all (loop .part) (loop .i) (c .before .before .args .to) (omega arith) ∙ loop .inv .1

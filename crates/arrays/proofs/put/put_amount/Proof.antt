@@ -1,6 +1,4 @@
-use mathlib.Core.List.{[], _∷_}
-use native.Mathlib.Omega.{arith}
-use borrow.Author.Needs.{needs}
+use Rattle.kit.specs.Names.{[], _∷_, arith, needs}
 use Rattle.arrays.proofs.PutLaws.{past-lent, past-part, put-one}
 use Rattle.arrays.proofs.put.put_amount.Statement.{statement}
 use Rattle.arrays.proofs.put.put_amount.Tie as tie

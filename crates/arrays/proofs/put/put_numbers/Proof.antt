@@ -1,9 +1,5 @@
 -- The invariant: what is left to be put makes the whole. Assumes nothing.
-use mathlib.Core.Path.{_≡_, _∙_}
-use Prim.Native.Nat.{_-_, _≤_}
-use native.Mathlib.Omega.{arith}
-use borrow.Author.Needs.{needs}
-use lib.ListN.{length, drop, length-set}
+use Rattle.kit.specs.Names.{_≡_, _∙_, _-_, _≤_, length, drop, length-set, arith, needs}
 use Rattle.arrays.specs.Room.{putLent}
 use Rattle.arrays.proofs.PutLaws.{past-lent, past-part, put-turn, put-all}
 use Rattle.arrays.proofs.put.put_numbers.Statement.{statement}
@@ -18,20 +14,27 @@ abbrev μ-loop : tie.MeasureT-loop
 
 returns : tie.Need-returns Inv-loop μ-loop
 returns c =
-    let loop = c .before .before .loop in
-    let a = c .before .before .before .args in
+    let head = c .before .before in
+    let loop = head .loop in
+    let a = head .before .args in
     past-lent (a .length) (loop .part) (loop .to) (drop (loop .i) (a .numbers .now)) (omega arith) ∙ loop .inv .2
+
+-- the loop's head, seen from where a number is known to be lent
+abbrev at-loop : tie.Else1 Inv-loop μ-loop → tie.At-loop Inv-loop μ-loop
+at-loop c = c .before .before
 
 returns-2 : tie.Need-returns-2 Inv-loop μ-loop
 returns-2 c =
-    let loop = c .before .before .before .loop in
-    let a = c .before .before .before .before .args in
+    let head = at-loop (c .before) in
+    let loop = head .loop in
+    let a = head .before .args in
     past-part (a .length) (loop .part) (loop .to) (drop (loop .i) (a .numbers .now)) (omega arith) ∙ loop .inv .2
 
 loop-again : tie.Need-loop-again Inv-loop μ-loop
 loop-again c =
-    let loop = c .before .before .before .before .loop in
-    let a = c .before .before .before .before .before .args in (
+    let head = at-loop (c .before .before) in
+    let loop = head .loop in
+    let a = head .before .args in (
       simp length-set (omega arith),
       omega arith,
       put-turn (a .length) (loop .part) (loop .to) (a .numbers .now) (loop .i) (omega arith) (omega arith) ∙ loop .inv .2,

@@ -1,17 +1,9 @@
-use mathlib.Core.Path.{_≡_}
-use native.Mathlib.Omega.{arith}
-use borrow.Author.Needs.{needs}
+use Rattle.kit.specs.Names.{_≡_, arith, needs}
 use Rattle.rules.specs.declared.call.Call.the-variants.{New, Len, Find, Unioned, Join, Post, Probe, ProbeKey, TryProbe, Snapshot, Rollback, Commit, Keys, Actions, Changes}
 use Rattle.coding.specs.Coding.{SHORT, LONG}
 use Rattle.coding.proofs.CodingLaws.{no-key, one-key, two-keys, beyond}
 use Rattle.coding.proofs.coding.form_of.Statement.{statement}
 use Rattle.coding.proofs.coding.form_of.Tie as tie
-
-cast-key : tie.Need-cast-key
-cast-key c = search needs
-
-cast-other : tie.Need-cast-other
-cast-other c = search needs
 
 returns : tie.Need-returns
 returns c = let g = c .before .args in rw (c .match .keys1) (one-key (g .a) (g .b) (g .c) (SHORT, LONG, 0) (λ k. New k (g .b)) (omega arith))
@@ -64,5 +56,5 @@ returns-15 c =
 pub form-of-spec : {M : Type 1} → statement M
 form-of-spec =
     tie.close
-    (tie.spec cast-key cast-other returns returns-2 returns-3 returns-4 returns-5 returns-6 returns-7 returns-8 returns-9 returns-10 returns-11
+    (tie.spec (search needs) (search needs) returns returns-2 returns-3 returns-4 returns-5 returns-6 returns-7 returns-8 returns-9 returns-10 returns-11
     returns-12 returns-13 returns-14 returns-15)

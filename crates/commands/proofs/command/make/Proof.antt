@@ -1,8 +1,5 @@
 -- `command::make` meets its contract: each arm is a form of the table. Assumes nothing.
-use mathlib.Core.Path.{_≡_, sym, ap}
-use Prim.Native.Nat.{ℕ}
-use borrow.Author.Needs.{needs}
-use lib.ListN.{List·getD-eq-default}
+use Rattle.kit.specs.Names.{_≡_, sym, ap, ℕ, List·getD-eq-default, needs}
 use Rattle.commands.specs.Forms.{Form, formAt, forms, makesOf, numberAt}
 use Rattle.commands.specs.declared.command.Command.{Command}
 use Rattle.commands.proofs.FormLaws.{past-others}

@@ -1,8 +1,5 @@
 -- `command::make_call` meets its contract: each arm is a form of the table. Assumes nothing.
-use mathlib.Core.Path.{_≡_, sym, ap}
-use Prim.Native.Nat.{ℕ}
-use native.Mathlib.Omega.{arith}
-use borrow.Author.Needs.{needs}
+use Rattle.kit.specs.Names.{_≡_, sym, ap, ℕ, arith, needs}
 use Rattle.commands.specs.Forms.{forms, makesOf}
 use Rattle.commands.specs.declared.command.Command.{Command}
 use Rattle.commands.proofs.FormLaws.{past-others}

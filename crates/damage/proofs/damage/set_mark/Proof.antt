@@ -1,6 +1,4 @@
-use mathlib.Core.Path.{_∙_}
-use native.Mathlib.Omega.{arith}
-use borrow.Author.Needs.{needs}
+use Rattle.kit.specs.Names.{_∙_, arith, needs}
 use Rattle.rules.specs.Lent.{table}
 use Rattle.damage.proofs.CommandLaws.{no-mark, mark-set}
 use Rattle.damage.proofs.damage.set_mark.Statement.{statement}

@@ -1,5 +1,4 @@
-use mathlib.Core.Path.{_∙_}
-use borrow.Author.Needs.{needs}
+use Rattle.kit.specs.Names.{_∙_, needs}
 use Rattle.rules.specs.Contract.{rowsNow}
 use Rattle.rules.specs.Lent.{table}
 use Rattle.damage.proofs.CommandLaws.{row-set}
@@ -23,14 +22,15 @@ returns c =
     let h = first i in
     let d = h .before .before .before in
     let k = d .before .before in
-    let a = k .before .before .before .before .before .before .args in
+    let after-at-most = k .before .before in
+    let a = after-at-most .before .before .before .before .args in
     let ps = h .put-numbers .last .0 in
     let cs = i .put-numbers2 .last .0 in
     let qs = j .put-amount .last .0 in
     λ l. c .leaving .ensures (table (record { parents = ps; crowns = cs; amounts = qs }) l)
     ∙ row-set (a .lengths) (rowsNow (a .parents) (a .crowns) (a .amounts)) l (a .state) (a .row) (a .key)
-    (k .before .before .lent .result) (k .before .lent2 .result) (k .lent3 .result) (d .before .most-rows .result) (d .done .result) ps cs qs
-    (k .before .before .lent .ensures) (k .before .lent2 .ensures) (k .lent3 .ensures) (d .before .most-rows .ensures) (d .done .ensures)
+    (after-at-most .at-most .result) (k .before .at-most2 .result) (k .at-most3 .result) (d .before .most-rows .result) (d .done .result) ps cs qs
+    (after-at-most .at-most .ensures) (k .before .at-most2 .ensures) (k .at-most3 .ensures) (d .before .most-rows .ensures) (d .done .ensures)
     (h .put-numbers .ensures) (i .put-numbers2 .ensures) (j .put-amount .ensures)
 
 pub set-row-spec : {M : Type 1} → statement M

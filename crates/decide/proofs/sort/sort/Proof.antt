@@ -2,9 +2,6 @@ use borrow.Author.Needs.{needs}
 use Rattle.decide.proofs.sort.sort.Statement.{statement}
 use Rattle.decide.proofs.sort.sort.Tie as tie
 
-enum-told : tie.Need-enum-told
-enum-told c = search needs
-
 returns : tie.Need-returns
 returns c = rw (c .before .call .given .1)
 
@@ -51,6 +48,6 @@ returns-15 : tie.Need-returns-15
 returns-15 c = rw (c .before .call13 .given .1)
 
 pub sort-spec : {M : Type 1} → statement M
-sort-spec = tie.close (tie.spec (search needs) enum-told (search needs) (search needs) (search needs) (search needs) (search needs) (search needs) (search needs)
-    (search needs) (search needs) (search needs) (search needs) (search needs) (search needs) returns returns-2 returns-3 returns-4 returns-5
-    returns-6 returns-7 returns-8 returns-9 returns-10 returns-11 returns-12 returns-13 returns-14 returns-15)
+sort-spec = tie.close (tie.spec (search needs) (search needs) (search needs) (search needs) (search needs) (search needs) (search needs) (search needs) (search needs)
+    (search needs) (search needs) (search needs) (search needs) (search needs) (search needs) returns returns-2 returns-3 returns-4 returns-5 returns-6
+    returns-7 returns-8 returns-9 returns-10 returns-11 returns-12 returns-13 returns-14 returns-15)

@@ -4,8 +4,5 @@ use Rattle.digits.proofs.PrintLaws.{one-byte}
 use Rattle.digits.proofs.put.put_byte.Statement.{statement}
 use Rattle.digits.proofs.put.put_byte.Tie as tie
 
-returns : tie.Need-returns
-returns c = one-byte _ _ _ (c .pre)
-
 pub put-byte-spec : {M : Type 1} → statement M
-put-byte-spec = tie.close (tie.spec (search needs) (search needs) (search needs) returns)
+put-byte-spec = tie.close (tie.spec (search needs) (search needs) (search needs) (λ c. one-byte _ _ _ (c .pre)))

@@ -1,11 +1,5 @@
 -- `put::put_bytes` meets its contract. Assumes nothing.
-use mathlib.Core.Path.{_≡_}
-use Prim.Native.Nat.{_-_, _≤_}
-use native.Mathlib.Omega.{arith}
-use borrow.Author.Needs.{needs}
-use lib.ListN.{length, length-set}
-use lib.Seq.{paste, paste-zero, paste-suc}
-use native.Mathlib.Numerals.{add-one}
+use Rattle.kit.specs.Names.{_≡_, _-_, _≤_, length, length-set, paste, paste-zero, paste-suc, arith, add-one, needs}
 use Rattle.digits.proofs.put.put_bytes.Statement.{statement}
 use Rattle.digits.proofs.put.put_bytes.Tie as tie
 
@@ -19,13 +13,13 @@ loop-holds : tie.Need-loop-holds Inv-loop μ-loop
 loop-holds c = (search needs, search needs, paste-zero (c .args .out .now) (c .args .at) (c .args .bytes .now))
 
 loop-again : tie.Need-loop-again Inv-loop μ-loop
-loop-again c = (
-  search needs,
-  simp length-set (omega arith),
-  rw (add-one (c .before .before .loop .i), c .before .before .loop .inv .2)
-      (paste-suc (c .before .before .before .args .out .now) (c .before .before .before .args .at)
-      (c .before .before .before .args .bytes .now) (c .before .before .loop .i) 0 (omega arith) (omega arith)),
-)
+loop-again c =
+    let head = c .before .before in
+    let a = head .before .args in (
+      search needs,
+      simp length-set (omega arith),
+      rw (add-one (head .loop .i), head .loop .inv .2) (paste-suc (a .out .now) (a .at) (a .bytes .now) (head .loop .i) 0 (omega arith) (omega arith)),
+    )
 
 returns : tie.Need-returns Inv-loop μ-loop
 returns c = let e : c .before .loop .i ≡ length (c .before .before .args .bytes .now) = omega arith in record { place = search needs; room = search needs; stands = rw (← e) (c .before .loop .inv .2) }

@@ -1,17 +1,19 @@
-use mathlib.Core.Path.{subst}
+use Rattle.kit.specs.Names.{subst, needs}
 use Rattle.decisions.specs.declared.sorted.WalkCall.{WalkCall}
 use Rattle.decisions.specs.Sorted.{LiveKeys}
-use borrow.Author.Needs.{needs}
 use Rattle.far.proofs.plan.far_plan.Statement.{statement}
 use Rattle.far.proofs.plan.far_plan.Tie as tie
 
+abbrev start : tie.After-shared-slice-known4 → tie.Start
+start c = c .before .before .before .before
+
 far-one-requires : tie.Need-far-one-requires
 far-one-requires c κs =
-    let e = c .before .before .before .before .before .before .before in (e .pre .0, subst (λ (w : WalkCall). LiveKeys (e .args .head .count) w) (c .before .call .given .1) (e .pre .1))
+    let e = start (c .before .before .before) in (e .pre .0, subst (λ (w : WalkCall). LiveKeys (e .args .head .count) w) (c .before .call .given .1) (e .pre .1))
 
 far-two-requires : tie.Need-far-two-requires
 far-two-requires c κs =
-    let e = c .before .before .before .before .before .before .before in
+    let e = start (c .before .before .before) in
     let live = subst (λ (w : WalkCall). LiveKeys (e .args .head .count) w) (c .before .call2 .given .1) (e .pre .1) in
     (e .pre .0, (live .0, live .1))
 

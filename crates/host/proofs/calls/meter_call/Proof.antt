@@ -17,16 +17,19 @@ after k =
     let l = k .meter-calls .last in
     hostOf (l .0) (l .1 .0) (l .1 .1 .0) (l .1 .1 .1 .0) (l .1 .1 .1 .1 .0) (l .1 .1 .1 .1 .1 .0) (l .1 .1 .1 .1 .1 .1 .1 .0)
 
+abbrev start : tie.After-slice-known7 → tie.Start
+start c = c .before .before .before .before .before .before .before .before
+
 returns : tie.Need-returns
 returns c =
     let k = served c in
     let f = k .before .before .before .before .before .before .before .before in
-    let e = f .before .before .before .before .before .before .before .before .before in
+    let e = start (f .before) in
     as-single (first e) (e .args .call .now) (k .meter-calls .result) (after k) (f .if1 .taken) (k .meter-calls .ensures)
 
 returns-2 : tie.Need-returns-2
 returns-2 c =
-    let e = c .before .before .before .before .before .before .before .before .before .before in
+    let e = start (c .before .before) in
     no-single (first e) (e .args .call .now) (c .no-call .result) (c .before .if1 .left) (c .no-call .ensures)
 
 pub meter-call-spec : {M : Type 1} → statement M

@@ -1,6 +1,5 @@
 -- The tests decide, and what passes them is run.
-use mathlib.Core.Path.{_≡_, sym, _∙_}
-use borrow.Author.Needs.{needs}
+use Rattle.kit.specs.Names.{_≡_, sym, _∙_, needs}
 use Rattle.coding.specs.Coding.{Listed, callList}
 use Rattle.admit.specs.Admit.{CARRIED-OUT}
 use Rattle.runs.specs.Served.{Host, hostNow}
@@ -13,8 +12,12 @@ use Rattle.host.proofs.calls.meter_calls.Tie as tie
 abbrev ran : tie.After-slice-known14 → tie.After-run
 ran c = c .before .before .before .before .before .before .before .before .before .before .before .before .before .before
 
+-- where the tests are passed, seen from where the run is called
+abbrev call-passed : tie.After-run-arg7 → tie.Else1
+call-passed c = c .before .before .before .before .before .before .before
+
 abbrev passed : tie.After-run → tie.Else1
-passed r = r .before .before .before .before .before .before .before .before
+passed r = call-passed (r .before)
 
 abbrev start : tie.After-test-calls → tie.Start
 start k = k .before .before .before .before .before .before .before .before .before
@@ -42,7 +45,7 @@ returns c =
 
 run-requires : tie.Need-run-requires
 run-requires c κs =
-    let f = c .before .before .before .before .before .before .before in
+    let f = call-passed c in
     let e = start (f .before) in
     may-run (first e) (e .args .calls .now) (passes f)
 

@@ -1,6 +1,5 @@
 -- `gather::gather_byte` meets its contract. Assumes nothing.
-use borrow.Author.Needs.{needs}
-use native.Mathlib.Omega.{arith}
+use Rattle.kit.specs.Names.{arith, needs}
 use Rattle.lines.proofs.LineLaws.{kept, not-kept}
 use Rattle.lines.proofs.gather.gather_byte.Statement.{statement}
 use Rattle.lines.proofs.gather.gather_byte.Tie as tie

@@ -1,10 +1,5 @@
-use mathlib.Core.Path.{_≡_, ap, _∙_}
-use mathlib.Core.Logic.{⊎-elim}
-use Prim.Native.Nat.{ℕ, _+_, _-_, _≤_, _<_}
-use native.Mathlib.Omega.{arith}
-use borrow.Author.Needs.{needs}
+use Rattle.kit.specs.Names.{_≡_, ap, _∙_, ⊎-elim, ℕ, _+_, _-_, _≤_, _<_, length, getD, take, set, length-set, arith, needs}
 use borrow.Author.Count.{below-more}
-use lib.ListN.{length, getD, take, set, length-set}
 use Rattle.rules.specs.Walk.{path}
 use Rattle.roots.specs.Trail.{compress}
 use Rattle.roots.proofs.PathLaws.{along}
@@ -32,46 +27,58 @@ abbrev μ-walk : tie.MeasureT-walk
 loop-again : tie.Need-loop-again Inv-loop μ-loop Inv-walk μ-walk
 loop-again c = (search needs, below-more _ _ (c .before .before .loop .inv .1) (c .if1 .left))
 
+abbrev start : tie.At-walk Inv-loop μ-loop Inv-walk μ-walk → tie.Start Inv-loop μ-loop Inv-walk μ-walk
+start c = c .before .before
+
+-- the loop's head and the walk's round, seen from where the parent is read
+abbrev at-loop : tie.After-shared-slice-known Inv-loop μ-loop Inv-walk μ-walk → tie.At-loop Inv-loop μ-loop Inv-walk μ-walk
+at-loop c = c .before .before
+
+abbrev in-walk : tie.After-shared-slice-known Inv-loop μ-loop Inv-walk μ-walk → tie.In-walk Inv-loop μ-loop Inv-walk μ-walk
+in-walk c = at-loop c .before
+
 returns : tie.Need-returns Inv-loop μ-loop Inv-walk μ-walk
 returns c =
-    let w = c .before .before .before .before .before in
-    let e = w .before .before in
+    let w = in-walk (c .before) .before in
+    let e = start w in
     let a = e .args in
     let law = after-root (a .parents .now) (a .count) (a .a) (a .first) (e .pre .0) (e .pre .1 .0) (e .pre .1 .1 .0) (e .pre .1 .1 .1) (a .key)
     (w .walk .at) (w .walk .steps) (w .walk .nodes) (w .walk .inv .0) (w .walk .inv .1) (w .walk .inv .2) in (
-      law (c .before .before .before .before .walk-test .taken) (λ i lt. c .before .before .before .loop .inv .1 i (omega arith)) (c .if2 .taken),
+      law (in-walk (c .before) .walk-test .taken) (λ i lt. at-loop (c .before) .loop .inv .1 i (omega arith)) (c .if2 .taken),
       record { steps = omega arith; size = simp length-set (omega arith) },
     )
 
 returns-2 : tie.Need-returns-2 Inv-loop μ-loop Inv-walk μ-walk
 returns-2 c =
-    let w = c .before .before .before .before .before .before in
-    let e = w .before .before in
+    let read = c .before .before in
+    let w = in-walk read .before in
+    let e = start w in
     let a = e .args in
     let law = after-spent (a .parents .now) (a .count) (a .a) (a .first) (e .pre .0) (e .pre .1 .0) (e .pre .1 .1 .0) (e .pre .1 .1 .1) (a .key)
     (w .walk .at) (w .walk .steps) (w .walk .nodes) (w .walk .inv .0) (w .walk .inv .1) (w .walk .inv .2) in (
-      law (c .before .before .before .before .before .walk-test .taken) (λ i lt. c .before .before .before .before .loop .inv .1 i (omega arith))
+      law (in-walk read .walk-test .taken) (λ i lt. at-loop read .loop .inv .1 i (omega arith))
           (c .if3 .taken) (c .before .if2 .left),
       record { steps = omega arith; size = simp length-set (omega arith) },
     )
 
 walk-again : tie.Need-walk-again Inv-loop μ-loop Inv-walk μ-walk
 walk-again c =
-    let w = c .before .before .before .before .before .before in
-    let e = w .before .before in
+    let read = c .before .before in
+    let w = in-walk read .before in
+    let e = start w in
     let a = e .args in
     let law = after-more (a .parents .now) (a .count) (a .a) (a .first) (e .pre .0) (e .pre .1 .0) (e .pre .1 .1 .0) (e .pre .1 .1 .1) (a .key)
     (w .walk .at) (w .walk .steps) (w .walk .nodes) (w .walk .inv .0) (w .walk .inv .1) (w .walk .inv .2) in (
       omega arith,
       simp length-set (omega arith),
-      law (c .before .before .before .before .before .walk-test .taken)
-          (λ i lt. c .before .before .before .before .loop .inv .1 i (omega arith)) (c .if3 .left) (c .before .if2 .left),
+      law (in-walk read .walk-test .taken)
+          (λ i lt. at-loop read .loop .inv .1 i (omega arith)) (c .if3 .left) (c .before .if2 .left),
     )
 
 returns-3 : tie.Need-returns-3 Inv-loop μ-loop Inv-walk μ-walk
 returns-3 c =
     let w = c .before .before in
-    let e = w .before .before in
+    let e = start w in
     let a = e .args in
     let law = after-out (a .parents .now) (a .count) (a .a) (a .first) (e .pre .0) (e .pre .1 .0) (e .pre .1 .1 .0) (e .pre .1 .1 .1) (a .key)
     (w .walk .at) (w .walk .steps) (w .walk .nodes) (w .walk .inv .0) (w .walk .inv .1) (w .walk .inv .2) in
@@ -79,19 +86,21 @@ returns-3 c =
 
 returns-4 : tie.Need-returns-4 Inv-loop μ-loop Inv-walk μ-walk
 returns-4 c =
-    let w = c .before .before .before in
-    let e = w .before .before in
+    let left = c .before .before in
+    let w = left .before in
+    let e = start w in
     let a = e .args in
     let law = on-spent (a .parents .now) (a .count) (a .a) (a .first) (e .pre .0) (e .pre .1 .0) (e .pre .1 .1 .0) (e .pre .1 .1 .1) (a .key)
     (w .walk .at) (w .walk .steps) (w .walk .nodes) (w .walk .inv .0) (w .walk .inv .1) (w .walk .inv .2) in
     ⊎-elim (λ o. absurd (omega (arith, o .0, c .before .if4 .left)))
     (λ o. (law (c .before .if4 .left) (o .1 .j) (o .2 .taken) (o .3 .taken) (c .if5 .taken), record { steps = omega arith; size = rw (o .4) (simp length-set (omega arith)) }))
-    (c .before .before .walk-test .came)
+    (left .walk-test .came)
 
 returns-5 : tie.Need-returns-5 Inv-loop μ-loop Inv-walk μ-walk
 returns-5 c =
-    let w = c .before .before .before in
-    let e = w .before .before in
+    let left = c .before .before in
+    let w = left .before in
+    let e = start w in
     let a = e .args in
     let law = on-more (a .parents .now) (a .count) (a .a) (a .first) (e .pre .0) (e .pre .1 .0) (e .pre .1 .1 .0) (e .pre .1 .1 .1) (a .key)
     (w .walk .at) (w .walk .steps) (w .walk .nodes) (w .walk .inv .0) (w .walk .inv .1) (w .walk .inv .2) in
@@ -100,11 +109,11 @@ returns-5 c =
       rw (o .4) (law (c .before .if4 .left) (o .1 .j) (o .2 .taken) (o .3 .taken) (c .if5 .left)),
       record {
         steps = omega arith;
-        size = length-set (c .before .before .walk-test .nodes) (w .walk .steps + 1) _
+        size = length-set (left .walk-test .nodes) (w .walk .steps + 1) _
             ∙ ap length (o .4) ∙ length-set (w .walk .nodes) (w .walk .steps) (w .walk .at) ∙ w .walk .inv .1;
       },
     ))
-    (c .before .before .walk-test .came)
+    (left .walk-test .came)
 
 mul-root : tie.Need-mul-root Inv-loop μ-loop Inv-walk μ-walk
 mul-root c = search needs

@@ -1,5 +1,4 @@
-use mathlib.Core.Path.{_∙_}
-use borrow.Author.Needs.{needs}
+use Rattle.kit.specs.Names.{_∙_, needs}
 use Rattle.rules.specs.Contract.{tableNow}
 use Rattle.rules.specs.Lent.{Table}
 use Rattle.damage.specs.Commands.{changed}
@@ -18,18 +17,22 @@ one c = c .before .before .before .before .before .before .before .before
 abbrev two : tie.After-slice-known12 → tie.After-other
 two c = c .before .before .before .before .before .before .before .before
 
+abbrev start : tie.After-slice-known4 → tie.Start
+start c = c .before .before .before .before
+
 returns : tie.Need-returns
 unfolding changed
 returns c =
     let k = one c in
-    let e = k .before .before .before .before .before .before .before .before .before .before .before .before in
-    told (e .args .lengths) (whole e) (k .before .before .before .before .before .before .command .given .1) (k .call-lent .ensures)
+    let after-command = k .before .before .before .before .before .before in
+    let e = start (after-command .before .before) in
+    told (e .args .lengths) (whole e) (after-command .command .given .1) (k .call-lent .ensures)
 
 returns-2 : tie.Need-returns-2
 returns-2 c =
     let k = two c in
     let m = k .before .before .before .before .before in
-    let e = m .before .before .before .before .before in
+    let e = start (m .before) in
     k .other .ensures ∙ no-call (e .args .lengths) (whole e) (e .args .command) (m .match .keys2)
 
 pub change-spec : {M : Type 1} → statement M

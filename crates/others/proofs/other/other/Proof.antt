@@ -1,5 +1,4 @@
-use mathlib.Core.Path.{_∙_}
-use borrow.Author.Needs.{needs}
+use Rattle.kit.specs.Names.{_∙_, needs}
 use Rattle.rules.specs.Contract.{rowsNow, tableNow}
 use Rattle.rules.specs.Lent.{Rows, Table}
 use Rattle.others.proofs.OtherLaws.{lending-is, otherwise-told}
@@ -22,23 +21,28 @@ two c = c .before .before
 abbrev three : tie.After-slice-known12 → tie.After-lend
 three c = c .before .before .before .before .before .before .before .before
 
+abbrev start : tie.After-slice-known4 → tie.Start
+start c = c .before .before .before .before
+
 returns : tie.Need-returns
 returns c =
     let k = one c in
-    let e = k .before .before .before .before .before .before .before .before .before .before .before in
-    otherwise-told (e .args .lengths) (whole e) (k .before .before .before .before .before .command .given .1) (k .set-row .ensures (e .args .log .now))
+    let told = k .before .before .before .before .before in
+    let e = start (told .before .before) in
+    otherwise-told (e .args .lengths) (whole e) (told .command .given .1) (k .set-row .ensures (e .args .log .now))
 
 returns-2 : tie.Need-returns-2
 returns-2 c =
     let k = two c in
-    let e = k .before .before .before .before .before .before .before .before .before in
-    otherwise-told (e .args .lengths) (whole e) (k .before .before .before .command2 .given .1) (k .set-entry .ensures (rows e))
+    let told = k .before .before .before in
+    let e = start (told .before .before) in
+    otherwise-told (e .args .lengths) (whole e) (told .command2 .given .1) (k .set-entry .ensures (rows e))
 
 returns-3 : tie.Need-returns-3
 returns-3 c =
     let k = three c in
     let z = k .before .before .before .before .before in
-    let e = z .before .before .before .before .before .before in
+    let e = start (z .before .before) in
     let a = e .args in
     k .lend .ensures ∙ z .lending-of .ensures (rows e) (a .log .now) ∙ lending-is (a .lengths) (whole e) (a .command) (z .before .match .keys3)
 

@@ -1,6 +1,5 @@
 -- `parse::form_of` meets its contract: the words of its text are the names of the table. Assumes nothing.
-use native.Mathlib.Omega.{arith}
-use borrow.Author.Needs.{needs}
+use Rattle.kit.specs.Names.{arith, needs}
 use Rattle.commands.specs.Forms.{forms, names}
 use Rattle.words.specs.Line.{wordsAfter}
 use Rattle.words.proofs.LineLaws.{placed}

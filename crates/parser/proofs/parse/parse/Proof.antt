@@ -1,16 +1,8 @@
 -- `parse::parse` meets its contract. Assumes nothing.
-use mathlib.Core.Path.{_∙_}
-use native.Mathlib.Omega.{arith}
-use borrow.Author.Needs.{needs}
+use Rattle.kit.specs.Names.{_∙_, arith, needs}
 use Rattle.parser.proofs.CommandLaws.{comment, empty-line, named-by, only-blanks}
 use Rattle.parser.proofs.parse.parse.Statement.{statement}
 use Rattle.parser.proofs.parse.parse.Tie as tie
-
-returns : tie.Need-returns
-returns c = empty-line _ (c .if1 .taken)
-
-returns-2 : tie.Need-returns-2
-returns-2 c = comment _ (omega arith) (c .if2 .taken)
 
 returns-3 : tie.Need-returns-3
 returns-3 c =
@@ -29,5 +21,5 @@ returns-4 c =
 pub parse-spec : {M : Type 1} → statement M
 parse-spec =
     tie.close
-    (tie.spec returns (search needs) returns-2 (λ c κs. search needs) returns-3 (λ c κs. search needs) (search needs) (search needs)
-    (search needs) (λ c κs. search needs) (λ c κs. search needs) returns-4)
+    (tie.spec (λ c. empty-line _ (c .if1 .taken)) (search needs) (λ c. comment _ (omega arith) (c .if2 .taken)) (λ c κs. search needs) returns-3
+    (λ c κs. search needs) (search needs) (search needs) (search needs) (λ c κs. search needs) (λ c κs. search needs) returns-4)

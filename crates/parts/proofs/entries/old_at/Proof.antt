@@ -48,7 +48,7 @@ shared-slice-read-t8 : tie.Need-shared-slice-read-t8
 shared-slice-read-t8 c = search needs
 
 returns : tie.Need-returns
-returns c = rw (c .before .before .before .before .before .owner-of .ensures, c .before .before .amount-of .ensures)
+returns c = let amount = c .before .before in rw (amount .before .before .before .owner-of .ensures, amount .amount-of .ensures)
 
 pub old-at-spec : {M : Type 1} → statement M
 old-at-spec =

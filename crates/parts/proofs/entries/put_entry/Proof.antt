@@ -1,9 +1,5 @@
-use mathlib.Core.Path.{_∙_}
-use native.Mathlib.Omega.{arith}
-use lib.ListN.{length-set}
-use denote.Ref.{now}
+use Rattle.kit.specs.Names.{_∙_, length-set, now, arith, needs}
 use Rattle.parts.proofs.StoreLaws.{stored}
-use borrow.Author.Needs.{needs}
 use Rattle.parts.proofs.entries.put_entry.Statement.{statement}
 use Rattle.parts.proofs.entries.put_entry.Tie as tie
 
@@ -28,9 +24,13 @@ slice-write-log-2 c = simp length-set (omega arith)
 put-old-requires : tie.Need-put-old-requires
 put-old-requires c κs = simp length-set (omega arith)
 
+-- the old row put, seen from the function's end
+abbrev after-put-old : tie.After-slice-known2 → tie.After-put-old
+after-put-old c = c .before .before
+
 returns : tie.Need-returns
 returns c =
-    let k = c .before .before in
+    let k = after-put-old c in
     let n = k .before .before .before in
     let a = n .before .before .args in
     stored (now (a .log)) (a .i) (a .entry) (n .numbers-of .result) (k .put-old .last .0) (n .numbers-of .ensures) (k .put-old .ensures)
@@ -39,4 +39,4 @@ pub put-entry-spec : {M : Type 1} → statement M
 put-entry-spec =
     tie.close
     (tie.spec mul-base (λ c κs. search needs) mul-log slice-write-log add-log mul-log-2 slice-write-log-2 put-old-requires
-    (λ c. (c .before .before .put-old .kept .0) ∙ simp length-set) returns)
+    (λ c. (after-put-old c .put-old .kept .0) ∙ simp length-set) returns)

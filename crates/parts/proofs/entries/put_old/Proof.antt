@@ -1,6 +1,4 @@
-use native.Mathlib.Omega.{arith}
-use lib.ListN.{length-set}
-use borrow.Author.Needs.{needs}
+use Rattle.kit.specs.Names.{length-set, arith, needs}
 use Rattle.parts.proofs.entries.put_old.Statement.{statement}
 use Rattle.parts.proofs.entries.put_old.Tie as tie
 

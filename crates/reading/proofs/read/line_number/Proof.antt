@@ -1,6 +1,5 @@
-use borrow.Author.Needs.{needs}
-use borrow.Author.Tests.{not-true, not-false}
-use Rattle.reading.proofs.TurnLaws.{goes-on, no-number, next-number}
+use Rattle.kit.specs.Names.{not-true, not-false, needs}
+use Rattle.reading.proofs.TakingLaws.{goes-on, no-number, next-number}
 use Rattle.reading.proofs.read.line_number.Statement.{statement}
 use Rattle.reading.proofs.read.line_number.Tie as tie
 

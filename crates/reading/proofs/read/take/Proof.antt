@@ -1,13 +1,13 @@
 use borrow.Author.Needs.{needs}
 use Rattle.lines.specs.Lines.{line, reached}
-use Rattle.reading.proofs.TurnLaws.{gathered}
+use Rattle.reading.proofs.TakingLaws.{gathered}
 use Rattle.reading.proofs.read.take.Statement.{statement}
 use Rattle.reading.proofs.read.take.Tie as tie
 
 returns : tie.Need-returns
 returns c =
-    let a = c .before .before .before .before .before .before .before .before .args in
     let k = c .before .before .before .before in
+    let a = k .before .before .before .before .args in
     let g = k .gather .result in
     let b = k .gather .last .0 in
     gathered (a .reading) (a .line .now) (a .input .now) (reached (line b (g .n) (g .overlong)) (g .next) (g .ended)) (c .before .ends .result)

@@ -1,5 +1,4 @@
-use native.Mathlib.Omega.{arith}
-use borrow.Author.Needs.{needs}
+use Rattle.kit.specs.Names.{arith, needs}
 use Rattle.rules.specs.Contract.{rowsNow}
 use Rattle.rules.specs.Lent.{Rows}
 use Rattle.show.proofs.PieceLaws.{saying, then}
@@ -10,18 +9,23 @@ use Rattle.replies.proofs.parts.row.Tie as tie
 abbrev rows : tie.Start → Rows
 rows e = let a = e .args in rowsNow (a .parents) (a .crowns) (a .amounts)
 
+abbrev start : tie.After-struct-known → tie.Start
+start c = c .before .before .before .before .before
+
 returns : tie.Need-returns
 returns c =
-    let e = c .before .before .before .before .before .before .before .before .before .before .before in
-    saying (no-row (rows e) (e .args .all .count) (e .args .key) (omega arith)) (c .before .before .word .ensures)
+    let word = c .before .before in
+    let e = start (word .before .before .before .before) in
+    saying (no-row (rows e) (e .args .all .count) (e .args .key) (omega arith)) (word .word .ensures)
 
 returns-2 : tie.Need-returns-2
 returns-2 c =
-    let h = c .before .before .before .before .before .before .before in
+    let word = c .before .before in
+    let h = word .before .before .before .before .before in
     let k = h .before .before .before .before in
-    let e = k .before .before .before .before .before .before .before .before .before in
+    let e = start (k .before .before .before .before) in
     saying (a-row (rows e) (e .args .all .count) (e .args .key) (omega arith))
-    (then (k .word2 .ensures) (then (h .row-cells .ensures) (c .before .before .word3 .ensures)))
+    (then (k .word2 .ensures) (then (h .row-cells .ensures) (word .word3 .ensures)))
 
 pub row-spec : {M : Type 1} → statement M
 row-spec =

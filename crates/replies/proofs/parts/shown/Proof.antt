@@ -5,15 +5,19 @@ use Rattle.replies.proofs.parts.shown.Tie as tie
 
 returns : tie.Need-returns
 returns c =
-    let k = c .before .before .before .before .before .before .before in
-    let h = k .before .before .before .before .before .before .before .before .before .before in
-    let f = h .before .before .before .before .before .before .before .before .before in
+    let third = c .before .before in
+    let k = third .before .before .before .before .before in
+    let state = k .before .before .before .before in
+    let room = state .before .before in
+    let h = room .before .before .before .before in
+    let second = h .before .before .before .before in
+    let f = second .before .before .before .before .before in
     then (f .before .before .before .before .word .ensures)
     (then (f .rows .ensures)
-    (then (h .before .before .before .before .word2 .ensures)
+    (then (second .word2 .ensures)
     (then (h .entries .ensures)
-    (then (piece (k .before .before .before .before .before .before .room .ensures .0) (k .before .before .before .before .put-state .ensures .0))
-    (then (k .marks .ensures) (c .before .before .word3 .ensures))))))
+    (then (piece (room .room .ensures .0) (state .put-state .ensures .0))
+    (then (k .marks .ensures) (third .word3 .ensures))))))
 
 pub shown-spec : {M : Type 1} → statement M
 shown-spec =

@@ -1,9 +1,4 @@
-use mathlib.Core.Path.{refl, ap}
-use Prim.Native.Nat.{_-_, _<_}
-use native.Mathlib.Omega.{arith}
-use denote.Ref.{now}
-use borrow.Author.Needs.{needs}
-use borrow.Author.Tests.{ne-eqb}
+use Rattle.kit.specs.Names.{refl, ap, _-_, _<_, now, arith, ne-eqb, needs}
 use Rattle.rules.specs.Lent.{Rows, Log}
 use Rattle.rules.specs.Write.{Memory, memory}
 use Rattle.rules.specs.Contract.{rowsNow}
@@ -27,40 +22,36 @@ log e = now (e .args .log)
 abbrev mem : tie.Start Inv-loop μ-loop → Memory
 mem e = memory (rows e) (log e) (e .args .opened) (e .args .used)
 
-returns : tie.Need-returns Inv-loop μ-loop
-returns c = saves-shut _ (mem (c .before .before .before .before .before)) (c .if1 .taken)
+abbrev start : tie.After-slice-known Inv-loop μ-loop → tie.Start Inv-loop μ-loop
+start c = c .before .before .before .before
+
+-- where a snapshot is known to be open
+abbrev is-open : tie.Else2 Inv-loop μ-loop → tie.Else1 Inv-loop μ-loop
+is-open c = c .before .before
 
 returns-2 : tie.Need-returns-2 Inv-loop μ-loop
-returns-2 c = let e = c .before .before .before .before .before .before .before in saves-idle (e .args .trail) (mem e) (c .if2 .taken)
-
-sub-left : tie.Need-sub-left Inv-loop μ-loop
-sub-left c = search needs
+returns-2 c = let e = start (c .before .before .before) in saves-idle (e .args .trail) (mem e) (c .if2 .taken)
 
 loop-holds : tie.Need-loop-holds Inv-loop μ-loop
 loop-holds c =
-    let e = c .before .before .before .before .before .before .before in
+    let e = start (is-open c .before) in
     let s = e .pre .0 .short in
     logging-starts (rows e) (log e) (e .args .opened) (e .args .used) (e .args .trail .nodes) (e .args .trail .steps - 1) (s .size)
     (omega (arith, s .steps, c .if2 .left))
 
-sub-left-2 : tie.Need-sub-left-2 Inv-loop μ-loop
-sub-left-2 c = search needs
-
-mul-log-row : tie.Need-mul-log-row Inv-loop μ-loop
-mul-log-row c = search needs
-
 array-read-log-row : tie.Need-array-read-log-row Inv-loop μ-loop
 array-read-log-row c =
-    let s = c .before .before .before .before .before .before .before .before .before .before .pre .0 .short in
-    omega (arith, s .steps, s .size, c .before .before .loop .inv .least, c .before .loop-test .taken)
+    let at-loop = c .before .before in
+    let s = start (is-open (at-loop .before) .before) .pre .0 .short in
+    omega (arith, s .steps, s .size, at-loop .loop .inv .least, c .before .loop-test .taken)
 
 log-row-requires : tie.Need-log-row-requires Inv-loop μ-loop
 log-row-requires c κs =
     let t = c .before in
     let l = t .before in
     let f = l .before in
-    let n = f .before .before in
-    let e = n .before .before .before .before .before in
+    let n = is-open f in
+    let e = start (n .before) in
     let a = e .args in
     let pos : 0 < a .trail .steps = omega (arith, f .if2 .left) in (
       node-in (rows e) (log e) (a .opened) (a .used) (a .count) (a .trail) (e .pre .0) (n .if1 .left) (e .pre .1) (a .trail .steps - 1) refl pos
@@ -69,17 +60,14 @@ log-row-requires c κs =
           pos _ (l .loop .left) (l .loop .more) (l .loop .inv) (t .loop-test .taken),
     )
 
-loop-less : tie.Need-loop-less Inv-loop μ-loop
-loop-less c = search needs
-
 loop-again : tie.Need-loop-again Inv-loop μ-loop
 loop-again c =
     let k = c .before .before in
     let t = k .before .before in
     let l = t .before in
     let f = l .before in
-    let n = f .before .before in
-    let e = n .before .before .before .before .before in
+    let n = is-open f in
+    let e = start (n .before) in
     let a = e .args in
     let s = e .pre .0 .short in
     let u = ap (λ (m : Memory). m .used) (k .log-row .ensures) in
@@ -91,11 +79,11 @@ returns-3 : tie.Need-returns-3 Inv-loop μ-loop
 returns-3 c =
     let l = c .before in
     let f = l .before in
-    let e = f .before .before .before .before .before .before .before in
+    let e = start (is-open f .before) in
     let a = e .args in
     logged-all (rows e) (log e) (a .opened) (a .used) (a .trail) (a .trail .steps - 1) refl (omega (arith, f .if2 .left)) _ (l .loop .left)
     (l .loop .more) (l .loop .inv) (omega (arith, c .loop-test .left))
 
 pub log-walk-spec : {M : Type 1} → statement M
-log-walk-spec = tie.close (tie.spec Inv-loop μ-loop returns returns-2 sub-left loop-holds sub-left-2 mul-log-row array-read-log-row log-row-requires loop-less
-    loop-again (λ c. c .before .loop .inv .kept) returns-3)
+log-walk-spec = tie.close (tie.spec Inv-loop μ-loop (λ c. saves-shut _ (mem (start (c .before))) (c .if1 .taken)) returns-2 (search needs) loop-holds (search needs)
+    (search needs) array-read-log-row log-row-requires (search needs) loop-again (λ c. c .before .loop .inv .kept) returns-3)

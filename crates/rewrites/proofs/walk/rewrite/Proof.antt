@@ -1,5 +1,4 @@
-use native.Mathlib.Omega.{arith}
-use denote.Ref.{now}
+use Rattle.kit.specs.Names.{now, arith}
 use Rattle.rules.specs.Write.{Memory, memory}
 use Rattle.rules.specs.Contract.{rowsNow, memoryNow}
 use Rattle.rewrites.proofs.RewriteWalk.{short-walk, leads, rewritten}
@@ -9,29 +8,37 @@ use Rattle.rewrites.proofs.walk.rewrite.Tie as tie
 abbrev mem : tie.Start → Memory
 mem e = let a = e .args in memoryNow (a .parents) (a .crowns) (a .amounts) (a .log) (a .opened) (a .used)
 
-returns : tie.Need-returns
-returns c = let e = c .before .before .before .before .before .before in short-walk (mem e) (e .args .count) (e .args .trail) (e .pre .0) (c .if1 .taken)
+abbrev test-start : tie.After-struct-known → tie.Start
+test-start c = c .before .before .before .before .before
 
-log-walk-requires : tie.Need-log-walk-requires
-log-walk-requires c κs = c .before .before .before .before .before .before .before .before .pre
+-- where the walk is known to rewrite a row, and its rows logged, seen from the call that comes next
+abbrev long-walk : tie.After-log-walk-arg2 → tie.Else1
+long-walk c = c .before .before
 
-array-read-inlined-get-root-key : tie.Need-array-read-inlined-get-root-key
-array-read-inlined-get-root-key c = let s = c .before .before .before .before .before .before .before .before .before .before .before .before .before .pre .0 .short in omega (arith, s .size)
+abbrev call-logged : tie.After-inlined-get-root-key-arg → tie.After-log-walk
+call-logged c = c .before .before .before .before
 
-inlined-get-root-key-requires : tie.Need-inlined-get-root-key-requires
-inlined-get-root-key-requires c κs =
-    let f = c .before .before .before .before .before .before .before in
-    let e = f .before .before .before .before .before .before in
-    leads (mem e) (e .args .count) (e .args .trail) (e .pre .0) (e .pre .1 .rows .parents) (omega (arith, f .if1 .left))
-
+-- from the end back to the pair, to the log and to the start
 abbrev walked : tie.After-slice-known4 → tie.After-inlined-get-root-key
 walked c = c .before .before
 
 abbrev logged : tie.After-inlined-get-root-key → tie.After-log-walk
-logged k = k .before .before .before .before .before
+logged k = call-logged (k .before)
 
 abbrev start : tie.After-log-walk → tie.Start
-start k = k .before .before .before .before .before .before .before .before .before
+start k = test-start (long-walk (k .before) .before)
+
+returns : tie.Need-returns
+returns c = let e = test-start (c .before) in short-walk (mem e) (e .args .count) (e .args .trail) (e .pre .0) (c .if1 .taken)
+
+array-read-inlined-get-root-key : tie.Need-array-read-inlined-get-root-key
+array-read-inlined-get-root-key c = let s = start (call-logged c) .pre .0 .short in omega (arith, s .size)
+
+inlined-get-root-key-requires : tie.Need-inlined-get-root-key-requires
+inlined-get-root-key-requires c κs =
+    let f = long-walk (call-logged c .before) in
+    let e = test-start (f .before) in
+    leads (mem e) (e .args .count) (e .args .trail) (e .pre .0) (e .pre .1 .rows .parents) (omega (arith, f .if1 .left))
 
 -- the memory once the rows are logged
 abbrev after : tie.After-log-walk → Memory
@@ -44,9 +51,9 @@ returns-2 c =
     let w = walked c in
     let k = logged w in
     let e = start k in
-    rewritten (mem e) (e .args .count) (e .args .trail) (e .pre .0) (omega (arith, k .before .before .before .if1 .left)) (after k)
+    rewritten (mem e) (e .args .count) (e .args .trail) (e .pre .0) (omega (arith, long-walk (k .before) .if1 .left)) (after k)
     (k .log-walk .ensures) (w .inlined-get-root-key .result) (w .inlined-get-root-key .last .0) (w .inlined-get-root-key .ensures)
 
 pub rewrite-spec : {M : Type 1} → statement M
-rewrite-spec = tie.close (tie.spec returns log-walk-requires array-read-inlined-get-root-key inlined-get-root-key-requires
+rewrite-spec = tie.close (tie.spec returns (λ c κs. test-start (long-walk c .before) .pre) array-read-inlined-get-root-key inlined-get-root-key-requires
     (λ c. walked c .inlined-get-root-key .kept .0) (λ c. logged (walked c) .log-walk .kept .1 .1 .1 .0) returns-2)

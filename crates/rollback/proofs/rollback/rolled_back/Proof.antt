@@ -1,6 +1,5 @@
 -- `rollback::rolled_back` meets its contract. Assumes nothing.
-use mathlib.Core.Path.{ap}
-use borrow.Author.Needs.{needs}
+use Rattle.kit.specs.Names.{ap, needs}
 use Rattle.rules.specs.Lent.{head}
 use Rattle.rollback.proofs.rollback.rolled_back.Statement.{statement}
 use Rattle.rollback.proofs.rollback.rolled_back.Tie as tie

@@ -1,10 +1,5 @@
 -- `undo::undoable` meets its contract: the entries not yet read decide, from the count reached. Assumes nothing.
-use mathlib.Core.Path.{_≡_, refl, ap, sym, _∙_}
-use Prim.Native.Nat.{ℕ, _+_, _-_, _≤_}
-use native.Mathlib.Omega.{arith}
-use denote.Ref.{now}
-use borrow.Author.Tests.{not-true, not-false}
-use borrow.Author.Needs.{needs}
+use Rattle.kit.specs.Names.{_≡_, refl, ap, sym, _∙_, ℕ, _+_, _-_, _≤_, now, arith, not-true, not-false, needs}
 use Rattle.rules.specs.Tokens.{newestFirst, undoable}
 use Rattle.rollback.proofs.UndoLaws.{refused-next, passed-next}
 use Rattle.rollback.proofs.undo.undoable.Statement.{statement}
@@ -17,21 +12,22 @@ Inv-loop log base used keys count unread₀ reached₀ unread reached =
 abbrev μ-loop : tie.MeasureT-loop
 μ-loop log base used keys count unread₀ reached₀ unread reached = unread
 
-abbrev start : tie.In-loop Inv-loop μ-loop → tie.Start Inv-loop μ-loop
-start k = k .before .before .before
+abbrev head-start : tie.At-loop Inv-loop μ-loop → tie.Start Inv-loop μ-loop
+head-start c = c .before .before
 
-loop-holds : tie.Need-loop-holds Inv-loop μ-loop
-loop-holds c = (omega arith, refl)
+abbrev start : tie.In-loop Inv-loop μ-loop → tie.Start Inv-loop μ-loop
+start k = head-start (k .before)
 
 entry-at-requires : tie.Need-entry-at-requires Inv-loop μ-loop
 entry-at-requires c κs = let e = start c in e .pre .1 (e .args .base + (c .before .loop .unread - 1)) (omega arith)
 
 returns : tie.Need-returns Inv-loop μ-loop
 returns c =
-    let k = c .before .before .before in
+    let read = c .before .before in
+    let k = read .before in
     let e = start k in
-    refused-next (now (e .args .log)) (e .args .base) (k .before .loop .unread) (omega arith) (c .before .before .entry-at .result)
-    (c .before .before .entry-at .ensures) (e .args .keys) (k .before .loop .reached) (sym (c .before .allowed .ensures) ∙ not-true _ (c .if1 .taken))
+    refused-next (now (e .args .log)) (e .args .base) (k .before .loop .unread) (omega arith) (read .entry-at .result)
+    (read .entry-at .ensures) (e .args .keys) (k .before .loop .reached) (sym (c .before .allowed .ensures) ∙ not-true _ (c .if1 .taken))
     ∙ sym (k .before .loop .inv .1)
 
 loop-again : tie.Need-loop-again Inv-loop μ-loop
@@ -49,12 +45,12 @@ loop-again c =
 returns-2 : tie.Need-returns-2 Inv-loop μ-loop
 unfolding undoable newestFirst
 returns-2 c =
-    let a = c .before .before .before .args in
+    let a = head-start (c .before) .args in
     let none : c .before .loop .unread ≡ 0 = omega arith in
     sym (c .before .loop .inv .1 ∙ ap (λ (n : ℕ). undoable (a .keys) (c .before .loop .reached) (newestFirst (now (a .log)) (a .base) n)) none)
 
 pub undoable-spec : {M : Type 1} → statement M
 undoable-spec =
     tie.close
-    (tie.spec Inv-loop μ-loop (search needs) loop-holds (search needs) (search needs) entry-at-requires (λ c κs. search needs) returns
+    (tie.spec Inv-loop μ-loop (search needs) (λ c. (omega arith, refl)) (search needs) (search needs) entry-at-requires (λ c κs. search needs) returns
     (λ c κs. search needs) (search needs) loop-again returns-2)

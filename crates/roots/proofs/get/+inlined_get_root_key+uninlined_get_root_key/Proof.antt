@@ -1,9 +1,6 @@
 -- The pair meets its contracts: what `inlined_get_root_key` hands on is the rest of its walk, with one redirect less at each round.
 -- The measures are twice the redirects left, and one more for the first of the pair. Assumes nothing.
-use Prim.Native.Nat.{ℕ, _+_, _<_}
-use native.Mathlib.Omega.{arith}
-use lib.ListN.{length-set}
-use borrow.Author.Needs.{needs}
+use Rattle.kit.specs.Names.{ℕ, _+_, _<_, length-set, arith, needs}
 use borrow.Fn.Kinds.{In}
 use borrow.Fn.PlainCycle.{Measures, is, falls, and}
 use Rattle.roots.proofs.WalkLaws.{lead-in, lead-root, lead-next, lead-below, lead-above}
@@ -43,35 +40,49 @@ un-claims t = (in-below t, in-reads.Post)
 
 -- ---- `inlined_get_root_key`
 
+-- its beginning, seen from its first test and from where it hands on
+abbrev start : (t : ℕ) → in-lts.After-slice-known2 (in-claims t) (in-at t) in-reads.Post → in-lts.Start (in-claims t) (in-at t) in-reads.Post
+start t c = c .before .before
+
+abbrev call-start : (t : ℕ) → in-lts.After-uninlined-get-root-key-arg (in-claims t) (in-at t) in-reads.Post → in-lts.Start (in-claims t) (in-at t) in-reads.Post
+call-start t c = start t (c .before .before)
+
+-- what it handed on, seen from its second test, and where its first test failed, seen from there
+abbrev handed-on : (t : ℕ) → in-lts.After-slice-known3 (in-claims t) (in-at t) in-reads.Post → in-lts.After-uninlined-get-root-key (in-claims t) (in-at t) in-reads.Post
+handed-on t c = c .before .before
+
+abbrev no-root : (t : ℕ) → in-lts.After-uninlined-get-root-key (in-claims t) (in-at t) in-reads.Post → in-lts.Else1 (in-claims t) (in-at t) in-reads.Post
+no-root t k = k .before .before
+
 reads-row : (t : ℕ) → in-lts.Need-slice-read-redirect (in-claims t) (in-at t) in-reads.Post
-reads-row t c = let w = c .before .before .pre .1 in omega (arith, lead-in w, w .inside)
+reads-row t c = let w = start t c .pre .1 in omega (arith, lead-in w, w .inside)
 
 at-root : (t : ℕ) → in-lts.Need-returns (in-claims t) (in-at t) in-reads.Post
-at-root t c = lead-root (c .before .before .before .pre .1) (c .if1 .taken)
+at-root t c = lead-root (start t (c .before) .pre .1) (c .if1 .taken)
 
 goes-on : (t : ℕ) → in-lts.Need-uninlined-get-root-key-requires (in-claims t) (in-at t) in-reads.Post
 goes-on t c κs =
-    let e = c .before .before .before .before in
+    let e = call-start t c in
     (omega (arith, e .pre .0), lead-next (e .pre .1) (c .before .if1 .left))
 
 just-below : (t : ℕ) → in-lts.Need-returns-2 (in-claims t) (in-at t) in-reads.Post
 just-below t c =
-    let k = c .before .before .before in
-    lead-below (k .before .before .before .before .before .pre .1) (k .before .before .if1 .left) _ _ (k .uninlined-get-root-key .ensures) (c .if2 .taken)
+    let k = handed-on t (c .before) in
+    lead-below (call-start t (k .before) .pre .1) (no-root t k .if1 .left) _ _ (k .uninlined-get-root-key .ensures) (c .if2 .taken)
 
 writes-row : (t : ℕ) → in-lts.Need-slice-write-parents (in-claims t) (in-at t) in-reads.Post
 writes-row t c =
-    let k = c .before .before .before in
-    let w = k .before .before .before .before .before .pre .1 in
+    let k = handed-on t (c .before) in
+    let w = call-start t (k .before) .pre .1 in
     omega (arith, lead-in w, w .inside, k .uninlined-get-root-key .kept)
 
 same-length : (t : ℕ) → in-lts.Need-same-length-2 (in-claims t) (in-at t) in-reads.Post
-same-length t c = simp length-set (c .before .before .before .uninlined-get-root-key .kept .0)
+same-length t c = simp length-set (handed-on t (c .before) .uninlined-get-root-key .kept .0)
 
 rewritten : (t : ℕ) → in-lts.Need-returns-3 (in-claims t) (in-at t) in-reads.Post
 rewritten t c =
-    let k = c .before .before .before in
-    lead-above (k .before .before .before .before .before .pre .1) (k .before .before .if1 .left) _ _ (k .uninlined-get-root-key .ensures) (c .if2 .left)
+    let k = handed-on t (c .before) in
+    lead-above (call-start t (k .before) .pre .1) (no-root t k .if1 .left) _ _ (k .uninlined-get-root-key .ensures) (c .if2 .left)
 
 -- ---- `uninlined_get_root_key`
 

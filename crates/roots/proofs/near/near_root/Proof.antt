@@ -6,17 +6,21 @@ use Rattle.roots.proofs.near.near_root.Tie as tie
 returns : tie.Need-returns
 returns c = let e = c .before .before in let a = e .args in near-self (a .parents .now) (a .count) (a .key) (e .pre .1) (c .if1 .taken)
 
+abbrev start : tie.Else1 → tie.Start
+start c = c .before .before
+
 returns-2 : tie.Need-returns-2
 returns-2 c =
-    let e = c .before .before .before in
+    let e = start (c .before) in
     let a = e .args in
     near-out (a .parents .now) (a .count) (a .key) (e .pre .1) (c .before .if1 .left) (c .if2 .taken)
 
 returns-3 : tie.Need-returns-3
 returns-3 c =
-    let e = c .before .before .before .before in
+    let left = c .before .before in
+    let e = start left in
     let a = e .args in
-    near-next (a .parents .now) (a .count) (a .key) (e .pre .1) (c .before .before .if1 .left) (c .before .if2 .left)
+    near-next (a .parents .now) (a .count) (a .key) (e .pre .1) (left .if1 .left) (c .before .if2 .left)
 
 mul-next : tie.Need-mul-next
 mul-next c = search needs

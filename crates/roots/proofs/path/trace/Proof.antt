@@ -1,8 +1,4 @@
-use mathlib.Core.Path.{_≡_}
-use Prim.Native.Nat.{_-_, _≤_}
-use native.Mathlib.Omega.{arith}
-use borrow.Author.Needs.{needs}
-use lib.ListN.{length, take, set, length-set}
+use Rattle.kit.specs.Names.{_≡_, _-_, _≤_, length, take, set, length-set, arith, needs}
 use Rattle.rules.specs.Walk.{path}
 use Rattle.roots.proofs.PathLaws.{along, trace-root, trace-out, trace-spent, trace-more}
 use Rattle.roots.proofs.path.trace.Statement.{statement}
@@ -15,9 +11,13 @@ Inv-loop parents count key nodes₀ steps₀ at₀ nodes steps at =
 abbrev μ-loop : tie.MeasureT-loop
 μ-loop parents count key nodes₀ steps₀ at₀ nodes steps at = 16 - steps
 
+-- the loop's head, seen from where the parent is read
+abbrev at-loop : tie.After-shared-slice-known Inv-loop μ-loop → tie.At-loop Inv-loop μ-loop
+at-loop c = c .before .before
+
 returns : tie.Need-returns Inv-loop μ-loop
 returns c =
-    let k = c .before .before .before in
+    let k = at-loop (c .before) in
     let a = k .before .args in (
       trace-root (a .parents .now) (k .loop .nodes) (a .count) (a .key) (k .loop .at) (k .loop .steps) (k .loop .inv .0) (k .loop .inv .1)
           (k .loop .inv .2) (omega arith) (c .if1 .taken),
@@ -26,7 +26,7 @@ returns c =
 
 returns-2 : tie.Need-returns-2 Inv-loop μ-loop
 returns-2 c =
-    let k = c .before .before .before .before in
+    let k = at-loop (c .before .before) in
     let a = k .before .args in (
       trace-spent (a .parents .now) (k .loop .nodes) (a .count) (a .key) (k .loop .at) (k .loop .steps) (k .loop .inv .0) (k .loop .inv .1)
           (k .loop .inv .2) (c .if2 .taken) (omega arith) (c .before .if1 .left),
@@ -35,7 +35,7 @@ returns-2 c =
 
 loop-again : tie.Need-loop-again Inv-loop μ-loop
 loop-again c =
-    let k = c .before .before .before .before in
+    let k = at-loop (c .before .before) in
     let a = k .before .args in (
       search needs,
       simp length-set (omega arith),

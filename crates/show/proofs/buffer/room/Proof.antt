@@ -1,9 +1,5 @@
 -- `buffer::room` meets its contract. Assumes nothing.
-use Prim.Native.Nat.{_-_}
-use borrow.Author.Needs.{needs}
-use borrow.Author.Tests.{le-ltb, lt-ltb}
-use lib.ListN.{length}
-use native.Mathlib.Omega.{arith}
+use Rattle.kit.specs.Names.{_-_, length, arith, le-ltb, lt-ltb, needs}
 use Rattle.show.proofs.buffer.room.Statement.{statement}
 use Rattle.show.proofs.buffer.room.Tie as tie
 

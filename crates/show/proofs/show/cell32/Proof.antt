@@ -1,6 +1,4 @@
-use mathlib.Core.Path.{_∙_}
-use native.Mathlib.Omega.{arith}
-use borrow.Author.Needs.{needs}
+use Rattle.kit.specs.Names.{_∙_, arith, needs}
 use Rattle.show.proofs.CellLaws.{missing, there}
 use Rattle.show.proofs.show.cell32.Statement.{statement}
 use Rattle.show.proofs.show.cell32.Tie as tie

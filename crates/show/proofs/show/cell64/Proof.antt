@@ -1,5 +1,4 @@
-use native.Mathlib.Omega.{arith}
-use borrow.Author.Needs.{needs}
+use Rattle.kit.specs.Names.{arith, needs}
 use Rattle.show.proofs.CellLaws.{missing, there}
 use Rattle.show.proofs.show.cell64.Statement.{statement}
 use Rattle.show.proofs.show.cell64.Tie as tie

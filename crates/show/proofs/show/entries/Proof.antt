@@ -1,9 +1,5 @@
 -- The invariant: so far the first `i` entries are printed. Assumes nothing.
-use mathlib.Core.Path.{_≡_}
-use Prim.Native.Nat.{_-_, _≤_}
-use native.Mathlib.Omega.{arith}
-use borrow.Author.Needs.{needs}
-use lib.ListN.{length}
+use Rattle.kit.specs.Names.{_≡_, _-_, _≤_, length, arith, needs}
 use Rattle.show.specs.Pieces.{Said}
 use Rattle.show.specs.Shown.{each, entryPieces}
 use Rattle.show.proofs.PieceLaws.{none, one-more, all}
@@ -16,19 +12,25 @@ Inv-loop out₀ at log n end₀ i₀ out end i = (length out ≡ length out₀) 
 abbrev μ-loop : tie.MeasureT-loop
 μ-loop out₀ at log n end₀ i₀ out end i = n - i
 
+abbrev start : tie.After-shared-slice-known Inv-loop μ-loop → tie.Start Inv-loop μ-loop
+start c = c .before .before
+
 loop-holds : tie.Need-loop-holds Inv-loop μ-loop
-loop-holds c = (search needs, search needs, none (entryPieces (c .before .before .args .log .now)))
+loop-holds c = (search needs, search needs, none (entryPieces (start c .args .log .now)))
 
 loop-again : tie.Need-loop-again Inv-loop μ-loop
 loop-again c =
-    let loop = c .before .before .before .before .before .loop in
-    let f = entryPieces (c .before .before .before .before .before .before .before .before .args .log .now) in
-    (search needs, search needs, one-more (loop .i) f (loop .inv .2) (c .before .before .entry-cells .ensures))
+    let cells = c .before .before in
+    let head = cells .before .before .before in
+    let loop = head .loop in
+    let f = entryPieces (start (head .before) .args .log .now) in
+    (search needs, search needs, one-more (loop .i) f (loop .inv .2) (cells .entry-cells .ensures))
 
 returns : tie.Need-returns Inv-loop μ-loop
 returns c =
+    let e = start (c .before .before) in
     let loop = c .before .loop in
-    all (loop .i) (c .before .before .before .before .args .n) (entryPieces (c .before .before .before .before .args .log .now)) (omega arith) (loop .inv .2)
+    all (loop .i) (e .args .n) (entryPieces (e .args .log .now)) (omega arith) (loop .inv .2)
 
 pub entries-spec : {M : Type 1} → statement M
 entries-spec = tie.close (tie.spec Inv-loop μ-loop loop-holds (λ c κs. search needs) (search needs) (search needs) loop-again (search needs) returns)

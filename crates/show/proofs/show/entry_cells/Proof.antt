@@ -6,13 +6,15 @@ use Rattle.show.proofs.show.entry_cells.Tie as tie
 
 returns : tie.Need-returns
 returns c =
-    let k = c .before .before .before .before in
+    let put = c .before .before in
+    let k = put .before .before in
     let h = k .before in
+    let third = h .before .before in
     saying
-    (entry-said (h .before .before .before .before .cell32 .ensures) (h .before .before .before .cell322 .ensures) (h .before .before .cell323 .ensures) (h .before .cell324 .ensures)
+    (entry-said (third .before .before .cell32 .ensures) (third .before .cell322 .ensures) (third .cell323 .ensures) (h .before .cell324 .ensures)
     (h .cell325 .ensures)
     (k .amount-cell .ensures))
-    (c .before .before .put-entry .ensures)
+    (put .put-entry .ensures)
 
 pub entry-cells-spec : {M : Type 1} → statement M
 entry-cells-spec =

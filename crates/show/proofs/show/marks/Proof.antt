@@ -1,9 +1,5 @@
 -- The invariant: so far the first `i` marks are printed. Assumes nothing.
-use mathlib.Core.Path.{_≡_}
-use Prim.Native.Nat.{_-_, _≤_, min}
-use native.Mathlib.Omega.{arith}
-use borrow.Author.Needs.{needs}
-use lib.ListN.{length}
+use Rattle.kit.specs.Names.{_≡_, _-_, _≤_, min, length, arith, needs}
 use Rattle.show.specs.Pieces.{Said}
 use Rattle.show.specs.Shown.{each, markPieces}
 use Rattle.show.proofs.PieceLaws.{none, one-more, all}
@@ -20,22 +16,28 @@ abbrev μ-loop : tie.MeasureT-loop
 loop-holds : tie.Need-loop-holds Inv-loop μ-loop
 loop-holds c = (search needs, search needs, search needs, none (markPieces (c .before .args .state)))
 
+abbrev start : tie.At-loop Inv-loop μ-loop → tie.Start Inv-loop μ-loop
+start c = c .before .before
+
 returns : tie.Need-returns Inv-loop μ-loop
 returns c =
-    let loop = c .before .before .loop in
-    let a = c .before .before .before .before .args in
+    let head = c .before .before in
+    let loop = head .loop in
+    let a = start head .args in
     all (loop .i) (min (a .n) 32) (markPieces (a .state)) (omega arith) (loop .inv .3)
 
 loop-again : tie.Need-loop-again Inv-loop μ-loop
 loop-again c =
-    let loop = c .before .before .before .before .before .before .loop in
-    let f = markPieces (c .before .before .before .before .before .before .before .before .args .state) in
-    (search needs, search needs, search needs, one-more (loop .i) f (loop .inv .3) (c .before .before .one-mark .ensures))
+    let marked = c .before .before in
+    let head = marked .before .before .before .before in
+    let loop = head .loop in
+    let f = markPieces (start head .args .state) in
+    (search needs, search needs, search needs, one-more (loop .i) f (loop .inv .3) (marked .one-mark .ensures))
 
 returns-2 : tie.Need-returns-2 Inv-loop μ-loop
 returns-2 c =
     let loop = c .before .loop in
-    let a = c .before .before .before .args in
+    let a = start (c .before) .args in
     all (loop .i) (min (a .n) 32) (markPieces (a .state)) (omega arith) (loop .inv .3)
 
 pub marks-spec : {M : Type 1} → statement M

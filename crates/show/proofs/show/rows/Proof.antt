@@ -1,9 +1,5 @@
 -- The invariant: so far the first `i` rows are printed. Assumes nothing.
-use mathlib.Core.Path.{_≡_}
-use Prim.Native.Nat.{ℕ, _-_, _≤_}
-use native.Mathlib.Omega.{arith}
-use borrow.Author.Needs.{needs}
-use lib.ListN.{length}
+use Rattle.kit.specs.Names.{_≡_, ℕ, _-_, _≤_, length, arith, needs}
 use Rattle.rules.specs.Contract.{rowsNow}
 use Rattle.show.specs.Pieces.{Said}
 use Rattle.show.specs.Shown.{Pieces, each, rowPieces}
@@ -23,20 +19,23 @@ abbrev μ-loop : tie.MeasureT-loop
 abbrev shown : tie.Start Inv-loop μ-loop → ℕ → Pieces
 shown e = let a = e .args in rowPieces (rowsNow (a .parents) (a .crowns) (a .amounts))
 
-loop-holds : tie.Need-loop-holds Inv-loop μ-loop
-loop-holds c = (search needs, search needs, none (shown (c .before .before .before .before)))
+abbrev start : tie.After-shared-slice-known3 Inv-loop μ-loop → tie.Start Inv-loop μ-loop
+start c = c .before .before .before .before
 
 loop-again : tie.Need-loop-again Inv-loop μ-loop
 loop-again c =
-    let k = c .before .before .before .before .before .before in
+    let cells = c .before .before in
+    let k = cells .before .before .before .before in
     let h = k .before .before .before .before in
     let loop = h .loop in
-    (search needs, search needs, one-more (loop .i) (shown (h .before .before .before .before .before)) (loop .inv .2) (then (k .word .ensures) (c .before .before .row-cells .ensures)))
+    (search needs, search needs, one-more (loop .i) (shown (start (h .before))) (loop .inv .2) (then (k .word .ensures) (cells .row-cells .ensures)))
 
 returns : tie.Need-returns Inv-loop μ-loop
 returns c =
+    let e = start (c .before .before) in
     let loop = c .before .loop in
-    all (loop .i) (c .before .before .before .before .before .before .args .n) (shown (c .before .before .before .before .before .before)) (omega arith) (loop .inv .2)
+    all (loop .i) (e .args .n) (shown e) (omega arith) (loop .inv .2)
 
 pub rows-spec : {M : Type 1} → statement M
-rows-spec = tie.close (tie.spec Inv-loop μ-loop loop-holds (search needs) (λ c κs. search needs) (λ c κs. search needs) (search needs) (search needs) loop-again (search needs) returns)
+rows-spec = tie.close (tie.spec Inv-loop μ-loop (λ c. (search needs, search needs, none (shown (start c)))) (search needs) (λ c κs. search needs) (λ c κs. search needs)
+    (search needs) (search needs) loop-again (search needs) returns)

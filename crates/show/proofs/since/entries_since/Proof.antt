@@ -1,13 +1,9 @@
 -- The invariant: so far the entries up to `i` are printed. Assumes nothing.
-use mathlib.Core.Path.{_≡_, ap}
-use Prim.Native.Nat.{ℕ, _+_, _-_, _≤_}
-use native.Mathlib.Omega.{arith}
-use borrow.Author.Needs.{needs}
-use lib.ListN.{length}
+use Rattle.kit.specs.Names.{_≡_, ap, ℕ, _+_, _-_, _≤_, length, arith, needs}
 use Rattle.rules.specs.Lent.{Log}
 use Rattle.rules.specs.Tokens.{viewed}
 use Rattle.parts.specs.declared.entries.Numbers.{Numbers}
-use Rattle.actions.specs.View.{lentAt}
+use Rattle.extract.specs.Numbers.{lentAt}
 use Rattle.show.specs.Pieces.{Said}
 use Rattle.show.specs.Shown.{Pieces, each, numbersPieces}
 use Rattle.show.proofs.PieceLaws.{none, one-more, all, saying}
@@ -24,29 +20,35 @@ Inv-loop out₀ at log from to end₀ i₀ out end i =
 abbrev μ-loop : tie.MeasureT-loop
 μ-loop out₀ at log from to end₀ i₀ out end i = to - i
 
+abbrev start : tie.After-shared-slice-known Inv-loop μ-loop → tie.Start Inv-loop μ-loop
+start c = c .before .before
+
 loop-holds : tie.Need-loop-holds Inv-loop μ-loop
 loop-holds c =
-    let a = c .before .before .args in
+    let a = start c .args in
     let f = seen (a .log .now) (a .from) (a .to) in
     (search needs, search needs, search needs, all 0 (a .from - a .from) f (omega arith) (none f))
 
 loop-again : tie.Need-loop-again Inv-loop μ-loop
 loop-again c =
-    let loop = c .before .before .before .before .before .before .loop in
-    let a = c .before .before .before .before .before .before .before .before .before .args in
+    let put = c .before .before in
+    let asked = put .before .before in
+    let head = asked .before .before in
+    let loop = head .loop in
+    let a = start (head .before) .args in
     let f = seen (a .log .now) (a .from) (a .to) in (
       search needs,
       search needs,
       search needs,
       all (loop .i - a .from + 1) (loop .i + 1 - a .from) f (omega arith)
           (one-more (loop .i - a .from) f (loop .inv .3)
-          (saying (ap {B = Pieces} (λ (e : Numbers). numbersPieces e) (c .before .before .before .before .lent-action-at .ensures)) (c .before .before .entry .ensures))),
+          (saying (ap {B = Pieces} (λ (e : Numbers). numbersPieces e) (asked .lent-action-at .ensures)) (put .entry .ensures))),
     )
 
 returns : tie.Need-returns Inv-loop μ-loop
 returns c =
     let loop = c .before .loop in
-    let a = c .before .before .before .before .args in
+    let a = start (c .before .before) .args in
     all (loop .i - a .from) (a .to - a .from) (seen (a .log .now) (a .from) (a .to)) (omega arith) (loop .inv .3)
 
 pub entries-since-spec : {M : Type 1} → statement M

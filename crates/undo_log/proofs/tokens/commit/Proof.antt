@@ -1,16 +1,20 @@
 -- `tokens::commit` meets its contract: each of its ends is one of the rule's. Assumes nothing.
-use mathlib.Core.Path.{sym, _∙_}
-use borrow.Author.Needs.{needs}
+use Rattle.kit.specs.Names.{sym, _∙_, needs}
 use Rattle.undo_log.proofs.tokens.commit.Statement.{statement}
 use Rattle.undo_log.proofs.tokens.commit.Tie as tie
 
+-- where the mark is there, seen from its test
+abbrev after-sought : tie.After-unfit → tie.After-sought
+after-sought c = c .before .before
+
 returns : tie.Need-returns
-returns c = rw (c .before .before .before .before .sought .given .1, sym (c .before .before .unfit .ensures) ∙ c .before .if1 .taken) (c .refused2 .ensures)
+returns c = let tested = c .before .before in rw (after-sought tested .sought .given .1, sym (tested .unfit .ensures) ∙ c .before .if1 .taken) (c .refused2 .ensures)
 
 returns-2 : tie.Need-returns-2
 returns-2 c =
-    let k = c .before .before .before in
-    rw (k .before .before .before .sought .given .1, sym (k .before .unfit .ensures) ∙ k .if1 .left, sym (c .before .before .stranded .ensures) ∙ c .before .if2 .taken)
+    let tested = c .before .before in
+    let k = tested .before in
+    rw (after-sought (k .before) .sought .given .1, sym (k .before .unfit .ensures) ∙ k .if1 .left, sym (tested .stranded .ensures) ∙ c .before .if2 .taken)
     (c .refused3 .ensures)
 
 returns-3 : tie.Need-returns-3
@@ -21,7 +25,7 @@ returns-4 c =
     let j = c .before .before in
     let k = j .before .before in
     rw (
-      k .before .before .before .sought .given .1,
+      after-sought (k .before) .sought .given .1,
       sym (k .before .unfit .ensures) ∙ k .if1 .left,
       sym (j .before .stranded .ensures) ∙ j .if2 .left,
       c .before .refusal .ensures,

@@ -1,6 +1,5 @@
 -- `tokens::snapshot` meets its contract: each of its ends is one of the rule's. Assumes nothing.
-use borrow.Author.Needs.{needs}
-use borrow.Author.Tests.{eq-eqb, ne-eqb}
+use Rattle.kit.specs.Names.{eq-eqb, ne-eqb, needs}
 use Rattle.undo_log.proofs.tokens.snapshot.Statement.{statement}
 use Rattle.undo_log.proofs.tokens.snapshot.Tie as tie
 
@@ -11,7 +10,7 @@ returns-2 : tie.Need-returns-2
 returns-2 c = rw (ne-eqb _ _ (c .before .before .if1 .left), eq-eqb _ _ (c .before .if2 .taken)) (c .refused2 .ensures)
 
 returns-3 : tie.Need-returns-3
-returns-3 c = rw (ne-eqb _ _ (c .before .before .before .if1 .left), ne-eqb _ _ (c .before .before .if2 .left), c .before .opened .ensures)
+returns-3 c = let left = c .before .before in rw (ne-eqb _ _ (left .before .if1 .left), ne-eqb _ _ (left .if2 .left), c .before .opened .ensures)
 
 pub snapshot-spec : {M : Type 1} → statement M
 snapshot-spec =

@@ -1,10 +1,5 @@
 -- `words::place_of` meets its contract: so many words were passed, and none of them was this one. Assumes nothing.
-use mathlib.Core.Path.{_≡_, ap, _∙_}
-use Prim.Native.Nat.{_+_, _-_, _≤_, _<_}
-use native.Mathlib.Omega.{arith}
-use borrow.Author.Needs.{needs}
-use mathlib.Core.List.{_∷_}
-use lib.ListN.{length, getD, drop}
+use Rattle.kit.specs.Names.{_≡_, ap, _∙_, _∷_, _+_, _-_, _≤_, _<_, length, getD, drop, arith, needs}
 use Rattle.words.specs.Line.{BLANK, placeIn, words}
 use Rattle.words.proofs.LineLaws.{next-word, no-words, part, this-word, told-same}
 use Rattle.words.proofs.words.place_of.Statement.{statement}
@@ -18,38 +13,49 @@ Inv-loop text word passed₀ at₀ passed at =
 abbrev μ-loop : tie.MeasureT-loop
 μ-loop text word passed₀ at₀ passed at = length text - at
 
+abbrev start : tie.After-skip-blanks Inv-loop μ-loop → tie.Start Inv-loop μ-loop
+start c = c .before .before .before
+
+-- the loop's head and the end of its word
+abbrev at-loop : tie.After-word-end Inv-loop μ-loop → tie.At-loop Inv-loop μ-loop
+at-loop c = c .before .before
+
+abbrev after-word-end : tie.After-same Inv-loop μ-loop → tie.After-word-end Inv-loop μ-loop
+after-word-end c = c .before .before
+
 -- the word that stands where the loop is, and those after it
 split : (c : tie.After-word-end Inv-loop μ-loop)
-    → let head = c .before .before in
-    let text = head .before .before .before .before .args .text .now in
+    → let head = at-loop c in
+    let text = start (head .before) .args .text .now in
     words (drop (head .loop .at) text) ≡ part text (head .loop .at) (c .word-end .result) ∷ words (drop (c .word-end .result) text)
-split c = c .word-end .ensures .first (c .before .before .loop .inv .2 (omega arith))
+split c = c .word-end .ensures .first (at-loop c .loop .inv .2 (omega arith))
 
 loop-holds : tie.Need-loop-holds Inv-loop μ-loop
 loop-holds c =
     let skip = c .skip-blanks .ensures in
-    let word = c .before .before .before .args .word .now in
+    let word = start c .args .word .now in
     (omega arith, skip .inside, skip .none, omega (arith, ap (λ ws. placeIn ws word) (skip .same)))
 
 returns : tie.Need-returns Inv-loop μ-loop
 returns c =
-    let end = c .before .before .before in
-    this-word _ _ _ _ (end .before .before .loop .inv .3) (split end) (told-same (c .before .same .ensures) ∙ c .if1 .taken)
+    let end = after-word-end (c .before) in
+    this-word _ _ _ _ (at-loop end .loop .inv .3) (split end) (told-same (c .before .same .ensures) ∙ c .if1 .taken)
 
 loop-again : tie.Need-loop-again Inv-loop μ-loop
 loop-again c =
-    let end = c .before .before .before .before in
-    let head = end .before .before in
+    let after-same = c .before .before in
+    let end = after-word-end after-same in
+    let head = at-loop end in
     let skip = c .skip-blanks2 .ensures in
-    let word = head .before .before .before .before .args .word .now in
-    let more = next-word _ _ _ (head .loop .passed) (head .loop .inv .3) (split end) (told-same (c .before .before .same .ensures) ∙ c .before .if1 .left) in
+    let word = start (head .before) .args .word .now in
+    let more = next-word _ _ _ (head .loop .passed) (head .loop .inv .3) (split end) (told-same (after-same .same .ensures) ∙ c .before .if1 .left) in
     (omega arith, skip .inside, skip .none, omega (arith, more, ap (λ ws. placeIn ws word) (skip .same)))
 
 returns-2 : tie.Need-returns-2 Inv-loop μ-loop
 unfolding placeIn
 returns-2 c =
     let head = c .before in
-    let args = head .before .before .before .before .args in
+    let args = start (head .before) .args in
     omega (arith, ap (λ ws. placeIn ws (args .word .now)) (no-words (args .text .now) (head .loop .at) (omega arith)))
 
 pub place-of-spec : {M : Type 1} → statement M

@@ -1,9 +1,5 @@
 -- `words::word_end` meets its contract: what was passed is the word so far. Assumes nothing.
-use mathlib.Core.Path.{_≡_, _∙_}
-use Prim.Native.Nat.{_-_, _≤_, _<_}
-use native.Mathlib.Omega.{arith}
-use borrow.Author.Needs.{needs}
-use lib.ListN.{length, getD, drop}
+use Rattle.kit.specs.Names.{_≡_, _∙_, _-_, _≤_, _<_, length, getD, drop, arith, needs}
 use Rattle.words.specs.Line.{BLANK, words, wordsAfter}
 use Rattle.words.proofs.LineLaws.{part, first-letter, past-letter, spans}
 use Rattle.words.proofs.words.word_end.Statement.{statement}
@@ -20,14 +16,18 @@ abbrev μ-loop : tie.MeasureT-loop
 loop-holds : tie.Need-loop-holds Inv-loop μ-loop
 loop-holds c = (omega arith, omega arith, first-letter (c .args .line .now) (c .args .start) (c .pre))
 
+-- the loop's head, seen from where its byte is read
+abbrev at-loop : tie.After-shared-slice-known Inv-loop μ-loop → tie.At-loop Inv-loop μ-loop
+at-loop c = c .before .before
+
 returns : tie.Need-returns Inv-loop μ-loop
 returns c =
-    let head = c .before .before .before in
+    let head = at-loop (c .before) in
     spans _ _ (head .loop .i) (omega arith) (omega arith) (λ _. c .if1 .taken) (head .loop .inv .2)
 
 loop-again : tie.Need-loop-again Inv-loop μ-loop
 loop-again c =
-    let head = c .before .before .before in
+    let head = at-loop (c .before) in
     let args = head .before .args in
     let more = past-letter (args .line .now) (args .start) (head .loop .i) (omega arith) (omega arith) (c .if1 .left) in
     (omega arith, omega arith, λ b. head .loop .inv .2 b ∙ more)

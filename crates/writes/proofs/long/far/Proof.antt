@@ -1,13 +1,11 @@
-use denote.Ref.{now}
+use Rattle.kit.specs.Names.{refl, subst, now, needs}
 use Rattle.rules.specs.Lent.{Rows, Log}
 use Rattle.rules.specs.Contract.{rowsNow}
-use mathlib.Core.Path.{refl, subst}
 use Rattle.rules.specs.Write.{Memory, memory}
 use Rattle.plans.specs.declared.verdict.Verdict.{Verdict}
 use Rattle.decisions.specs.Sorted.{walkCall}
 use Rattle.decisions.specs.Decided.{DoableIf}
 use Rattle.writes.proofs.FarCalls.{far-refused, far-carried}
-use borrow.Author.Needs.{needs}
 use Rattle.writes.proofs.long.far.Statement.{statement}
 use Rattle.writes.proofs.long.far.Tie as tie
 
@@ -17,46 +15,58 @@ rows e = let a = e .args in rowsNow (a .parents) (a .crowns) (a .amounts)
 abbrev log : tie.Start → Log
 log e = now (e .args .log)
 
-far-plan-requires : tie.Need-far-plan-requires
-far-plan-requires c κs = c .before .before .before .before .before .before .before .before .pre
+abbrev start : tie.After-far-plan-arg4 → tie.Start
+start c = c .before .before .before .before .before .before .before .before
 
-carry-out-requires : tie.Need-carry-out-requires
-carry-out-requires c κs =
-    let v = c .before .before .before .before .before in
-    let p = v .before .before .before .before in
-    let e = p .before .before .before .before .before .before .before .before .before in
+-- the plan, seen from its match and from where it is to be carried out
+abbrev after-far-plan : tie.After-second → tie.After-far-plan
+after-far-plan c = c .before .before
+
+abbrev doable-plan : tie.After-verdict2 → tie.After-far-plan
+doable-plan c = after-far-plan (c .before .before)
+
+-- where it is known to be one, seen from the call that carries it out
+abbrev after-verdict2 : tie.After-enact-arg4 → tie.After-verdict2
+after-verdict2 c = c .before .before .before .before .before
+
+enact-requires : tie.Need-enact-requires
+enact-requires c κs =
+    let v = after-verdict2 c in
+    let p = doable-plan v in
+    let e = start (p .before) in
     let d = subst (λ (w : Verdict). DoableIf (rows e) (log e) (e .args .head) (p .far-plan .result) w) (v .verdict2 .given .1) (p .far-plan .ensures .doable) in
     (d .ready, (d .first, (d .second, d .inside)))
 
 returns : tie.Need-returns
 returns c =
-    let p = c .before .before .before .before .before .before in
-    let e = p .before .before .before .before .before .before .before .before .before in
-    far-refused (rows e) (log e) (e .args .head) (walkCall (e .args .call)) (p .far-plan .result) (p .far-plan .ensures) _ (c .before .before .verdict .given .1) _
+    let told = c .before .before in
+    let p = after-far-plan (told .before .before) in
+    let e = start (p .before) in
+    far-refused (rows e) (log e) (e .args .head) (walkCall (e .args .call)) (p .far-plan .result) (p .far-plan .ensures) _ (told .verdict .given .1) _
     (c .refusal .ensures)
 
-abbrev carried : tie.After-with-used → tie.After-carry-out
+abbrev carried : tie.After-with-used → tie.After-enact
 carried c = c .before .before .before .before .before .before .before .before .before
 
-abbrev planned : tie.After-carry-out → tie.After-far-plan
-planned k = k .before .before .before .before .before .before .before .before .before .before
+abbrev planned : tie.After-enact → tie.After-far-plan
+planned k = doable-plan (after-verdict2 (k .before))
 
 -- the memory once all is written
-abbrev after : tie.After-carry-out → Memory
+abbrev after : tie.After-enact → Memory
 after k =
-    let h = planned k .before .before .before .before .before .before .before .before .before .args .head in
-    memory (record { parents = k .carry-out .last .0; crowns = k .carry-out .last .1 .0; amounts = k .carry-out .last .1 .1 .0 })
-    (k .carry-out .last .1 .1 .1 .0) (h .«open») (k .carry-out .result)
+    let h = start (planned k .before) .args .head in
+    memory (record { parents = k .enact .last .0; crowns = k .enact .last .1 .0; amounts = k .enact .last .1 .1 .0 })
+    (k .enact .last .1 .1 .1 .0) (h .«open») (k .enact .result)
 
 returns-2 : tie.Need-returns-2
 returns-2 c =
     let k = carried c in
     let p = planned k in
-    let e = p .before .before .before .before .before .before .before .before .before in
+    let e = start (p .before) in
     far-carried (rows e) (log e) (e .args .head) (walkCall (e .args .call)) (p .far-plan .result) (p .far-plan .ensures) _ _
-    (k .before .before .before .before .before .before .verdict2 .given .1) (after k) (k .carry-out .ensures) (c .with-used .result) (c .with-used .ensures)
+    (after-verdict2 (k .before) .verdict2 .given .1) (after k) (k .enact .ensures) (c .with-used .result) (c .with-used .ensures)
 
 pub far-spec : {M : Type 1} → statement M
-far-spec = tie.close (tie.spec far-plan-requires (search needs) (λ c κs. search needs) (search needs) carry-out-requires (λ c κs. search needs) (λ c. refl)
-    (λ c. refl) (λ c. refl) (λ c. refl) returns (λ c. carried c .carry-out .kept .0) (λ c. carried c .carry-out .kept .1 .0)
-    (λ c. carried c .carry-out .kept .1 .1 .0) (λ c. carried c .carry-out .kept .1 .1 .1 .0) returns-2)
+far-spec = tie.close (tie.spec (λ c κs. start c .pre) (search needs) (λ c κs. search needs) (search needs) enact-requires (λ c κs. search needs) (λ c. refl) (λ c. refl)
+    (λ c. refl) (λ c. refl) returns (λ c. carried c .enact .kept .0) (λ c. carried c .enact .kept .1 .0) (λ c. carried c .enact .kept .1 .1 .0)
+    (λ c. carried c .enact .kept .1 .1 .1 .0) returns-2)

@@ -1,0 +1,2 @@
+-- What is bad after a call.
+pub mod GoodLaws

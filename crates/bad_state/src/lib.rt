@@ -1,0 +1,2 @@
+// BAD_STATE over a head and four lengths.
+pub mod bad;

@@ -1,2 +1,0 @@
--- What the proofs of both functions use.
-pub mod StateCalls

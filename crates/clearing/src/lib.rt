@@ -1,0 +1,2 @@
+// Other lengths lent, what is lent anew cleared.
+pub mod lengths;

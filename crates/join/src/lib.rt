@@ -1,0 +1,2 @@
+// A join, made of where its walks lead.
+pub mod plan;

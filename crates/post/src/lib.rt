@@ -1,0 +1,2 @@
+// A post, made of where its walk leads.
+pub mod plan;

@@ -1,0 +1,2 @@
+// An answer, or that a line is none, printed.
+pub mod answer;

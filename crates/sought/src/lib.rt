@@ -1,0 +1,2 @@
+// The mark that a call is about, of a state by value.
+pub mod marks;

@@ -1,0 +1,2 @@
+// A rollback, decided.
+pub mod calls;

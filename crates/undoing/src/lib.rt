@@ -1,0 +1,2 @@
+// What a rollback undoes, once it is judged.
+pub mod undo;

@@ -1,0 +1,2 @@
+// An answer's numbers, written.
+pub mod answers;
