@@ -22,8 +22,11 @@ asked c = c .before .before .before .before .before .before
 abbrev good : tie.After-sought-at-arg2 → tie.Else1
 good c = c .before .before
 
+abbrev begun : tie.After-shared-slice-known → tie.Start
+begun c = c .before .before .before .before .before .before .before
+
 abbrev start : tie.Else1 → tie.Start
-start c = c .before .before .before .before .before .before .before .before
+start c = begun (c .before)
 
 abbrev found : tie.After-sought-at → tie.Else1
 found k = good (k .before)
@@ -52,7 +55,7 @@ carry-out-requires c κs =
 returns : tie.Need-returns
 returns c =
     let taken = c .before in
-    let e = taken .before .before .before .before .before .before .before .before in
+    let e = begun (taken .before) in
     rw (c .refuse-bad .ensures) (refused-bad (lent e) (callAt (e .args .calls .now) (e .args .at)) (sym (e .pre .1 .1 .1) ∙ taken .if1 .taken))
 
 returns-2 : tie.Need-returns-2

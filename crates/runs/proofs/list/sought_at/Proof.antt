@@ -6,14 +6,20 @@ use Rattle.runs.proofs.list.sought_at.Statement.{statement}
 use Rattle.runs.proofs.list.sought_at.Tie as tie
 
 -- where a token is named, seen from what is done with it, and the start
+abbrev named : tie.After-shared-slice-known6 → tie.Else1
+named c = c .before .before
+
 abbrev closing : tie.Then2 → tie.Else1
-closing c = c .before .before .before
+closing c = named (c .before)
 
 abbrev asking : tie.Else2 → tie.Else1
-asking c = c .before .before .before
+asking c = named (c .before)
+
+abbrev begun : tie.After-shared-slice-known4 → tie.Start
+begun c = c .before .before .before .before
 
 abbrev start : tie.Else1 → tie.Start
-start c = c .before .before .before .before .before
+start c = begun (c .before)
 
 abbrev state : tie.Start → State
 state e = let a = e .args in stateBy (a .head) (a .numbers .now) (a .serials .now)
@@ -24,7 +30,7 @@ number e i = getD (e .args .calls .now) (e .args .at + i) 0
 
 returns : tie.Need-returns
 returns c =
-    let e = c .before .before .before .before .before in
+    let e = begun (c .before) in
     code-names-none (state e) (number e 1) (number e 2) (number e 3) (getD (e .args .calls .now) (e .args .at) 0) (c .if1 .taken)
 
 returns-2 : tie.Need-returns-2
