@@ -231,10 +231,6 @@ step-roomy t c g =
     let k = kept-step t c g in
     subst⁻¹ (λ (z : Sizes). Roomy z (headOf (step t c .table .state))) (k .long) (k .within)
 
-pub step-long : (t : Table) (c : Call) → badTable t ≡ false
-    → let u = step t c .table in sizesOf (u .rows) (u .log) ≡ sizesOf (t .rows) (t .log)
-step-long t c g = kept-step t c g .long
-
 -- A bad table is left as it is.
 left : (t : Table) (c : Call) → badTable t ≡ true → t ≡ step t c .table
 unfolding step

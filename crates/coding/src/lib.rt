@@ -1,2 +1,2 @@
-// Calls and answers as the host's numbers.
+// Calls as the host's numbers.
 pub mod coding;

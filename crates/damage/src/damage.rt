@@ -1,4 +1,4 @@
-// What the commands for tests do, and the lending of other lengths.
+// What the commands for tests do, and which other lengths are asked for.
 ghost use mathlib.Core.Path.{_≡_};
 ghost use Rattle.rules.specs.Contract.{rowsLent, logLent};
 ghost use Rattle.rules.specs.Lent.{Rows, Log, table, fresh};

@@ -1,2 +1,2 @@
-// What the commands for tests write into the lent memory, and the lending of other lengths.
+// What the commands for tests write into the lent memory, and which other lengths are asked for.
 pub mod damage;

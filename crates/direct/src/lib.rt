@@ -1,2 +1,2 @@
-// Calls that reach rows without a walk, decided over `&` parts: a new key, a value without a walk, a rollback.
+// Calls that reach rows without a walk, decided over `&` parts: a new key, a value without a walk.
 pub mod calls;

@@ -1,2 +1,2 @@
-// Questions about a mark, and any of the six calls that only look at the head.
+// Any of the six calls that only look at the head.
 pub mod calls;

@@ -1,5 +1,5 @@
 -- The numbers of a state: what stands where, what a call writes, and that numbers and state are each other's. Assumes nothing.
-use Rattle.kit.specs.Names.{_≡_, refl, sym, ap, _∙_, Bool, true, false, cond, List, [], _∷_, map, ℕ, zero, suc, _+_, _-_, _≤_, _<_, length, getD, set, drop, ltb}
+use Rattle.kit.specs.Names.{_≡_, refl, sym, ap, _∙_, Bool, true, false, cond, List, [], _∷_, map, ℕ, zero, suc, _+_, _-_, _≤_, _<_, length, getD, set, ltb}
 use Rattle.kit.specs.Names.{length-set, set-out, arith, add-one, lt-ltb, le-ltb, eq-eqb, ne-eqb}
 use Rattle.rules.specs.declared.call.Call.{Call}
 use Rattle.rules.specs.declared.call.Call.the-variants.{Rollback, Commit, Keys, Actions, Changes}
@@ -93,9 +93,6 @@ module _ (h : Head) where
   headed-begun : {ns : List ℕ} (ss : List ℕ) → Begun ns → stateOf (headed ns h) ss ≡ stateBy h ns ss
   headed-begun ss (begun c u o ns n) = refl
 
-  alike-begun : {ns ms : List ℕ} → Begun ns → Begun ms → drop 3 ns ≡ drop 3 ms → headed ns h ≡ headed ms h
-  alike-begun (begun c u o ns n) (begun d v p ms m) q = ap (λ (r : List ℕ). h .count ∷ h .used ∷ h .«open» ∷ r) q
-
 same-begun : {ns : List ℕ} → Begun ns → headed ns (headIn ns) ≡ ns
 same-begun (begun c u o ns n) = refl
 
@@ -107,10 +104,6 @@ headed-length ns h = simp length-set
 
 pub headed-same : (ns : List ℕ) → length ns ≡ NUMBERS → headed ns (headIn ns) ≡ ns
 headed-same ns z = same-begun (begins ns z)
-
--- Numbers that differ in their heads alone are the same once another is written.
-pub headed-twice : (ns ms : List ℕ) (h : Head) → length ns ≡ NUMBERS → drop 3 ns ≡ drop 3 ms → length ms ≡ length ns → headed ns h ≡ headed ms h
-headed-twice ns ms h z q e = alike-begun h (begins ns z) (begins ms (e ∙ z)) q
 
 -- ---- what a call writes
 

@@ -1,4 +1,4 @@
-// The state of a table as the numbers that the host lends: read and written no more of than a call is about.
+// The state of a table as the numbers that the host lends: no more of it is read than a call is about.
 ghost use Rattle.kit.specs.Names.{_≡_, _≤_, _<_, length};
 ghost use Rattle.rules.specs.declared.call.Call.the-variants.{Rollback, Keys};
 ghost use Rattle.rules.specs.Numbers.{MAX-OPEN};

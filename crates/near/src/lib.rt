@@ -1,2 +1,2 @@
-// Calls whose walks have at most one redirect, decided over `&` parts.
+// Calls of two walks of at most one redirect, and either kind, decided over `&` parts.
 pub mod calls;

@@ -1,3 +1,3 @@
-// Rows and undo entries, read from and written to the lent parts. Where a number of them stands is known here.
+// Undo entries, read from and written to the lent log. Where a number of one stands is known here.
 pub mod amounts;
 pub mod entries;

@@ -1,2 +1,2 @@
-// The text of answers, rows, entries and states. Nothing here writes a file: the program hands over room for what is printed.
+// The text of rows, entries, marks and states. Nothing here writes a file: the program hands over room for what is printed.
 pub mod print;

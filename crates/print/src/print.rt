@@ -1,5 +1,5 @@
-// Answers, rows and entries, printed from place `at` of a buffer on. Each function answers the place after
-// what it wrote. The caller leaves room: no answer, row or entry is longer than `ROOM`.
+// Rows, entries, marks and states, printed from place `at` of a buffer on. Each function answers the place after
+// what it wrote. The caller leaves room: none of them is longer than `ROOM`.
 ghost use Rattle.kit.specs.Names.{_+_, _≤_, length};
 ghost use Rattle.words.specs.Bytes.{bytes as text};
 ghost use Rattle.digits.specs.Printed.{Printed, Wrote};

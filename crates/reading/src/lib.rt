@@ -1,2 +1,2 @@
-// The input read, line by line: each is gathered, its command carried out and its reply printed.
+// The input read, line by line: each is gathered part by part.
 pub mod read;

@@ -1,4 +1,4 @@
-// The entries since a snapshot, read and undone newest first.
+// The entries since a snapshot, read newest first.
 ghost use Rattle.kit.specs.Names.{_≡_, _-_, _≤_};
 ghost use Rattle.rules.specs.Tokens.{newestFirst, undoable};
 ghost use Rattle.rules.specs.Contract.{logLent};
