@@ -1,9 +1,7 @@
 -- No two outcomes meet a contract of the view: of one log and one range there is one view, and what is read of it is fixed. Assumes
 -- nothing.
 use Rattle.kit.specs.Names.{_≡_, sym, ap, _∙_, ℕ}
-use Rattle.rules.specs.declared.table.UndoLog.{UndoLog}
-use Rattle.rules.specs.Lent.{Log, entries, entryAt}
-use Rattle.rules.specs.Tokens.{viewed}
+use Rattle.rules.specs.Rules.{UndoLog, Log, entries, entryAt, viewed}
 use Rattle.parts.specs.declared.entries.Numbers.{Numbers}
 use Rattle.extract.specs.Numbers.{lentAt}
 use Rattle.actions.specs.declared.view.Actions.{Actions}

@@ -1,19 +1,11 @@
 -- What a view shows: as many entries as its range has places, each the log's own, `Unknown` past them, and nothing where a call is
 -- refused. Assumes nothing.
 use Rattle.kit.specs.Names.{_≡_, refl, ap, _∙_, Bool, true, false, List, [], _∷_, ℕ, zero, suc, _+_, _-_, _*_, _<_, _≤_, length, getD, take, drop, length-drop, arith}
-use Rattle.rules.specs.declared.call.Answer.{Answer}
+use Rattle.rules.specs.Rules.{Answer, Sought, State, UndoLog, BROKEN-TABLE, ENTRY, Log, Table, entries, entryAt, headOf, refusal, range, answered, refuseState, seek}
+use Rattle.rules.specs.Rules.{unfit, asked, viewed, actionsView, outcome, sizesOf, badTable, call, step}
 use Rattle.rules.specs.declared.call.Call.the-variants.{Actions}
-use Rattle.rules.specs.declared.table.Sought.{Sought}
 use Rattle.rules.specs.declared.table.Sought.the-variants.{Missing, Held}
-use Rattle.rules.specs.declared.table.State.{State}
-use Rattle.rules.specs.declared.table.UndoLog.{UndoLog}
 use Rattle.rules.specs.declared.table.UndoLog.the-variants.{Unknown}
-use Rattle.rules.specs.Numbers.{BROKEN-TABLE, ENTRY}
-use Rattle.rules.specs.Lent.{Log, Table, entries, entryAt, headOf}
-use Rattle.rules.specs.Answer.{refusal, range, answered, refuseState}
-use Rattle.rules.specs.Tokens.{seek, unfit, asked, viewed, actionsView}
-use Rattle.rules.specs.Refusal.{outcome, sizesOf, badTable}
-use Rattle.rules.specs.Step.{call, step}
 use Rattle.rules.proofs.StateLaws.{bad-good}
 use Rattle.extract.specs.Numbers.{lentAt, actionOf}
 use Rattle.actions.specs.View.{seen}

@@ -1,9 +1,7 @@
 -- What a view shows.
 use Rattle.kit.specs.Names.{ℕ, now}
 use Rattle.rules.specs.declared.call.Call.the-variants.{Actions as AskActions}
-use Rattle.rules.specs.Lent.{Log, Table, entries}
-use Rattle.rules.specs.Tokens.{actionsView}
-use Rattle.rules.specs.Step.{step}
+use Rattle.rules.specs.Rules.{Log, Table, entries, actionsView, step}
 use Rattle.actions.specs.declared.view.Actions.{Actions}
 
 -- The part of the log that a view refers to.

@@ -1,7 +1,5 @@
 ghost use mathlib.Core.Path.{_≡_};
-ghost use Rattle.rules.specs.Lent.{entryAt};
-ghost use Rattle.rules.specs.Tokens.{viewed};
-ghost use Rattle.rules.specs.Contract.{logLent};
+ghost use Rattle.rules.specs.Rules.{entryAt, viewed, logLent};
 ghost use Rattle.extract.specs.Numbers.{lentAt};
 ghost use Rattle.actions.specs.View.{shown, countOf};
 use parts::entries::Numbers;

@@ -1,12 +1,7 @@
 -- Laws of what is lent: cut off, and handed back. Assumes nothing.
 use Rattle.kit.specs.Names.{_≡_, refl, ap, sym, _∙_, List, _++_, ℕ, _≤_, min, length, take, drop, length-take, drop-of-length-le, length-take-le, take-all, take-length, drop-length, arith, decLe}
 use Rattle.kit.specs.Names.{min-eq-left, min-eq-right}
-use Rattle.rules.specs.declared.call.Answered.{Answered}
-use Rattle.rules.specs.declared.call.Call.{Call}
-use Rattle.rules.specs.Lent.{Rows, Log, Table, table}
-use Rattle.rules.specs.Refusal.{Outcome, Sizes, sizes}
-use Rattle.rules.specs.Contract.{outcomeOf}
-use Rattle.rules.specs.Step.{step}
+use Rattle.rules.specs.Rules.{Answered, Call, Rows, Log, Table, table, Outcome, Sizes, sizes, outcomeOf, step}
 use Rattle.commands.specs.declared.command.Lengths.{Lengths}
 use Rattle.arrays.specs.declared.reply.Reply.the-variants as Reply
 use Rattle.arrays.specs.Cut.{lentOf, lentSizes, handedBack, Left, leaving, called}

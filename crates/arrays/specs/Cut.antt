@@ -1,11 +1,6 @@
 -- What a program lends of the memory that it has: of each part the first numbers, as many as CALLS.md's `table` and `lend` say.
 use Rattle.kit.specs.Names.{Bool, cond, _++_, ℕ, _+_, _-_, _/_, max, take, drop}
-use Rattle.rules.specs.declared.call.Call.{Call}
-use Rattle.rules.specs.declared.table.State.{State}
-use Rattle.rules.specs.Numbers.{CROWN, ENTRY}
-use Rattle.rules.specs.Lent.{Rows, Log, Table, table}
-use Rattle.rules.specs.Refusal.{Sizes, sizesOf}
-use Rattle.rules.specs.Step.{step}
+use Rattle.rules.specs.Rules.{Call, State, CROWN, ENTRY, Rows, Log, Table, table, Sizes, sizesOf, step}
 use Rattle.commands.specs.declared.command.Lengths.{Lengths}
 use Rattle.arrays.specs.declared.reply.Changed.{Changed}
 use Rattle.arrays.specs.declared.reply.Reply.{Reply}

@@ -1,6 +1,6 @@
 -- How much can be lent, and numbers put into a part.
 use Rattle.kit.specs.Names.{Bool, _&&_, List, _++_, ℕ, _-_, _*_, take, drop, replicate, leb, sets}
-use Rattle.rules.specs.Numbers.{CROWN, ENTRY}
+use Rattle.rules.specs.Rules.{CROWN, ENTRY}
 use Rattle.commands.specs.declared.command.Lengths.{Lengths}
 
 -- "Before the first `table`, a table of 0 rows and 0 entries is lent."

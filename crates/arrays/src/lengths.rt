@@ -1,6 +1,5 @@
 ghost use Rattle.kit.specs.Names.{_≡_, ℕ, min, max};
-ghost use Rattle.rules.specs.Numbers.{ENTRY};
-ghost use Rattle.rules.specs.Refusal.{sizes};
+ghost use Rattle.rules.specs.Rules.{ENTRY, sizes};
 ghost use Rattle.arrays.specs.Cut.{touched, mostRows};
 ghost use Rattle.arrays.specs.Room.{nothing, roomFor};
 use commands::command::Lengths;

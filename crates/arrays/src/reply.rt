@@ -1,5 +1,5 @@
 ghost use mathlib.Core.Path.{_≡_};
-ghost use Rattle.rules.specs.Lent.{Table};
+ghost use Rattle.rules.specs.Rules.{Table};
 ghost use Rattle.arrays.specs.Cut.{left, leaving, doneWhere};
 use commands::command::Lengths;
 use rules::call::Answer;

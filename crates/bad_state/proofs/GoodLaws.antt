@@ -1,26 +1,15 @@
 -- A table that is not bad stays so, whatever call is made on it, but for one thing. Assumes nothing.
 use Rattle.kit.specs.Names.{_≡_, refl, sym, ap, _∙_, subst⁻¹, Bool, true, false, cond, not, _||_, List, [], _∷_, ℕ, suc, _+_, _-_, _≤_, zero-le}
 use Rattle.kit.specs.Names.{length, length-set, eqb, ltb, arith, ℕ-discrete, eq-eqb, ne-eqb, ltb-false, eqb-false}
-use Rattle.rules.specs.declared.call.Answer.{Answer}
-use Rattle.rules.specs.declared.call.Answered.{Answered}
-use Rattle.rules.specs.declared.call.Call.{Call}
+use Rattle.rules.specs.Rules.{Answer, Answered, Call, Mark, Row, Sought, State, UndoLog, Value, KEYS-FULL, LOG-FULL, NO-KEY, NOT-INNERMOST, TOO-DEEP, BROKEN-TABLE}
+use Rattle.rules.specs.Rules.{SERIALS-SPENT, MAX-OPEN, MAX-U64, Rows, Log, Table, entries, row, rowAt, putRow, putEntry, value, ownerOf, headOf, range, said}
+use Rattle.rules.specs.Rules.{refuseState, Memory, Write, place, edit, logged, put, puts, memoryOf, full, Plan, Walked, walk, walkBoth, findOn, unionedOn, joinOn}
+use Rattle.rules.specs.Rules.{postOn, probeOn, probeKeyOn, tryProbe, innermost, notInnermost, unfit, stranded, seek, asked, ask, snapshot, commit, len, since}
+use Rattle.rules.specs.Rules.{undoable, reversed, undo, Outcome, refuse, carry, Sizes, sizesOf, stray, bad, badTable, notLive, new, live, one, two, resting}
+use Rattle.rules.specs.Rules.{rollback, call, step}
 use Rattle.rules.specs.declared.call.Call.the-variants.{New, Len, Find, Unioned, Join, Post, Probe, ProbeKey, TryProbe, Snapshot, Rollback, Commit, Keys, Actions, Changes}
-use Rattle.rules.specs.declared.table.Mark.{Mark}
-use Rattle.rules.specs.declared.table.Row.{Row}
-use Rattle.rules.specs.declared.table.Sought.{Sought}
 use Rattle.rules.specs.declared.table.Sought.the-variants.{Missing, Held}
-use Rattle.rules.specs.declared.table.State.{State}
-use Rattle.rules.specs.declared.table.UndoLog.{UndoLog}
 use Rattle.rules.specs.declared.table.UndoLog.the-variants.{NewElem, SetElem, Unknown}
-use Rattle.rules.specs.declared.table.Value.{Value}
-use Rattle.rules.specs.Numbers.{KEYS-FULL, LOG-FULL, NO-KEY, NOT-INNERMOST, TOO-DEEP, BROKEN-TABLE, SERIALS-SPENT, MAX-OPEN, MAX-U64}
-use Rattle.rules.specs.Lent.{Rows, Log, Table, entries, row, rowAt, putRow, putEntry, value, ownerOf, headOf}
-use Rattle.rules.specs.Answer.{range, said, refuseState}
-use Rattle.rules.specs.Write.{Memory, Write, place, edit, logged, put, puts, memoryOf, full}
-use Rattle.rules.specs.Plan.{Plan, Walked, walk, walkBoth, findOn, unionedOn, joinOn, postOn, probeOn, probeKeyOn, tryProbe}
-use Rattle.rules.specs.Tokens.{innermost, notInnermost, unfit, stranded, seek, asked, ask, snapshot, commit, len, since, undoable, reversed, undo}
-use Rattle.rules.specs.Refusal.{Outcome, refuse, carry, Sizes, sizesOf, stray, bad, badTable}
-use Rattle.rules.specs.Step.{notLive, new, live, one, two, resting, rollback, call, step}
 use Rattle.rules.proofs.StateLaws.{Roomy, roomy-bad, good-roomy, bad-good}
 
 -- ---- what is written leaves the lent parts as long as they were

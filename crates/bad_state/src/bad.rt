@@ -1,7 +1,5 @@
 ghost use Rattle.kit.specs.Names.{_≡_, _||_};
-ghost use Rattle.rules.specs.Numbers.{BAD-STATE};
-ghost use Rattle.rules.specs.Answer.{refusal};
-ghost use Rattle.rules.specs.Refusal.{sizes, bad, stray};
+ghost use Rattle.rules.specs.Rules.{BAD-STATE, refusal, sizes, bad, stray};
 ghost use Rattle.undo_log.specs.Settled.{settled};
 use makers::answer::refusal;
 use rules::numbers::BAD_STATE;

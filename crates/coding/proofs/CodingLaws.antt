@@ -1,8 +1,7 @@
 -- What four numbers ask for, and what a list of them does. Assumes nothing.
 use Rattle.kit.specs.Names.{_≡_, refl, sym, ap, _∙_, Bool, true, false, cond, _&&_, List, [], _∷_, ℕ, zero, suc, _+_, _-_, _*_, _%_, _≤_, _<_, length, getD, drop, length-drop, leb, ltb, drop-cons}
 use Rattle.kit.specs.Names.{arith, decLt, add-one, ltb-true, leb-true, lt-ltb, le-ltb, le-leb, lt-leb}
-use Rattle.rules.specs.declared.call.Call.{Call}
-use Rattle.rules.specs.Numbers.{WORD}
+use Rattle.rules.specs.Rules.{Call, WORD}
 use Rattle.coding.specs.declared.coding.Form.{Form}
 use Rattle.coding.specs.declared.coding.Limits.{Limits}
 use Rattle.coding.specs.Coding.{UNUSED, SHORT, LONG, CODES, formOf, Formed, fits, Asked, nothing, asked, isAsked, askedOf, askedAt}

@@ -1,7 +1,6 @@
 -- The answers of a list of calls as numbers, one after the other.
 use Rattle.kit.specs.Names.{List, [], _∷_, _++_, ℕ}
-use Rattle.rules.specs.declared.call.Answer.{Answer}
-use Rattle.rules.specs.Answer.{answerNumbers}
+use Rattle.rules.specs.Rules.{Answer, answerNumbers}
 
 unfoldable pub answersNumbers : List Answer → List ℕ
 answersNumbers [] = []

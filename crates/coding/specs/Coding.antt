@@ -2,7 +2,7 @@
 use Rattle.kit.specs.Names.{_≡_, Bool, true, false, cond, _&&_, List, [], _∷_, ℕ, _+_, length, getD, eqb, leb, ltb}
 use Rattle.coding.specs.declared.coding.Form.{Form}
 use Rattle.coding.specs.declared.coding.Limits.{Limits}
-use Rattle.rules.specs.declared.call.Call.{Call}
+use Rattle.rules.specs.Rules.{Call}
 use Rattle.rules.specs.declared.call.Call.the-variants.{New, Len, Find, Unioned, Join, Post, Probe, ProbeKey, TryProbe, Snapshot, Rollback, Commit, Keys, Actions, Changes}
 
 -- How large a number may be: it is not used; it is a key or an owner; it is an amount or a token.

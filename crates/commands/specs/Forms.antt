@@ -1,7 +1,7 @@
 -- The commands that there are: CALLS.md, in its order.
 use Rattle.kit.specs.Names.{Bool, true, false, cond, List, [], _∷_, map, ℕ, _-_, _^_, getD}
 use Prim.Native.String.{String}
-use Rattle.rules.specs.Lent.{mark}
+use Rattle.rules.specs.Rules.{mark}
 use Rattle.rules.specs.declared.call.Call.the-variants.{New, Len, Find, Unioned, Join, Post, Probe, ProbeKey, TryProbe, Snapshot, Rollback, Commit, Keys, Actions, Changes}
 use Rattle.words.specs.Bytes.{bytes}
 use Rattle.commands.specs.declared.command.Command.{Command}

@@ -1,10 +1,6 @@
 -- Laws of the commands: what the code leaves is what they say. Assumes nothing.
 use Rattle.kit.specs.Names.{_≡_, true, false, List, [], _∷_, ℕ, suc, _+_, _*_, _≤_, _<_, min, length, length-take, ltb, arith, add-one, lt-ltb, le-ltb, le-leb, lt-leb}
-use Rattle.rules.specs.declared.table.Mark.{Mark}
-use Rattle.rules.specs.declared.table.State.{State}
-use Rattle.rules.specs.Numbers.{CROWN, ENTRY, MAX-OPEN}
-use Rattle.rules.specs.Lent.{Rows, Log, Table, table, lowOf, highOf, fresh}
-use Rattle.rules.specs.Refusal.{sizes}
+use Rattle.rules.specs.Rules.{Mark, State, CROWN, ENTRY, MAX-OPEN, Rows, Log, Table, table, lowOf, highOf, fresh, sizes}
 use Rattle.rules.proofs.RowLaws.{number-owner}
 use Rattle.commands.specs.declared.command.Command.{Command}
 use Rattle.commands.specs.declared.command.Command.the-variants as command

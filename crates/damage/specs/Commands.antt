@@ -1,10 +1,6 @@
 -- CALLS.md, command by command: what a line leaves of the memory, of the lengths that are lent and of the state, and its reply.
 use Rattle.kit.specs.Names.{Bool, cond, ℕ, _+_, _*_, set, ltb}
-use Rattle.rules.specs.declared.table.Mark.{Mark}
-use Rattle.rules.specs.declared.table.Row.{Row}
-use Rattle.rules.specs.declared.table.State.{State}
-use Rattle.rules.specs.Numbers.{ENTRY, MAX-OPEN}
-use Rattle.rules.specs.Lent.{Rows, Log, Table, table, row, value, ownerOf, putRow, putOld, fresh}
+use Rattle.rules.specs.Rules.{Mark, Row, State, ENTRY, MAX-OPEN, Rows, Log, Table, table, row, value, ownerOf, putRow, putOld, fresh}
 use Rattle.commands.specs.declared.command.Command.{Command}
 use Rattle.commands.specs.declared.command.Command.the-variants as command
 use Rattle.commands.specs.declared.command.Lengths.{Lengths}

@@ -1,7 +1,6 @@
 // What the commands for tests do, and which other lengths are asked for.
 ghost use mathlib.Core.Path.{_≡_};
-ghost use Rattle.rules.specs.Contract.{rowsLent, logLent};
-ghost use Rattle.rules.specs.Lent.{Rows, Log, table, fresh};
+ghost use Rattle.rules.specs.Rules.{rowsLent, logLent, Rows, Log, table, fresh};
 ghost use Rattle.commands.specs.declared.command.Command.the-variants as command;
 ghost use Rattle.arrays.specs.Cut.{left};
 ghost use Rattle.damage.specs.Commands.{lentLeft, changed};

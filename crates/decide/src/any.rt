@@ -1,7 +1,6 @@
 // What a call comes to, judged over `&` parts before anything is written.
 ghost use Rattle.kit.specs.Names.{_≡_, false};
-ghost use Rattle.rules.specs.Contract.{rowsNow, rowsLent, logLent};
-ghost use Rattle.rules.specs.Refusal.{sizesOf, bad};
+ghost use Rattle.rules.specs.Rules.{rowsNow, rowsLent, logLent, sizesOf, bad};
 ghost use Rattle.decisions.specs.Decided.{Decided};
 use crate::sort::sort;
 use decisions::decision::Decision;

@@ -1,19 +1,7 @@
 -- What is decided of a call is the rules' step: refusals, verdicts, new keys, rollbacks. Assumes nothing.
 use Rattle.kit.specs.Names.{_≡_, refl, ap, sym, _∙_, true, false, List, [], ℕ, _+_, length, arith}
-use Rattle.rules.specs.declared.call.Answer.{Answer}
-use Rattle.rules.specs.declared.call.Answered.{Answered}
-use Rattle.rules.specs.declared.call.Call.{Call}
-use Rattle.rules.specs.declared.table.Head.{Head}
-use Rattle.rules.specs.declared.table.Mark.{Mark}
-use Rattle.rules.specs.declared.table.Row.{Row}
-use Rattle.rules.specs.declared.table.Sought.{Sought}
-use Rattle.rules.specs.declared.table.State.{State}
-use Rattle.rules.specs.Numbers.{BAD-STATE}
-use Rattle.rules.specs.Lent.{Rows, Log, table, entries, row, head}
-use Rattle.rules.specs.Answer.{refusal}
-use Rattle.rules.specs.Write.{Write, memory, withMemory, puts}
-use Rattle.rules.specs.Refusal.{outcome, sizesOf, bad}
-use Rattle.rules.specs.Step.{resting, call, step}
+use Rattle.rules.specs.Rules.{Answer, Answered, Call, Head, Mark, Row, Sought, State, BAD-STATE, Rows, Log, table, entries, row, head, refusal, Write, memory}
+use Rattle.rules.specs.Rules.{withMemory, puts, outcome, sizesOf, bad, resting, call, step}
 use Rattle.undo_log.specs.declared.tokens.HeadCall.{HeadCall}
 use Rattle.undo_log.specs.declared.tokens.HeadCall.the-variants as head-call-case
 use Rattle.undo_log.specs.declared.tokens.Settled.{Settled}

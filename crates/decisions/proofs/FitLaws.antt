@@ -1,13 +1,7 @@
 -- A verdict that fits the log: what it comes to is what the rules make of its plan, and there is room for it. Assumes nothing.
 use Rattle.kit.specs.Names.{_≡_, refl, ap, sym, _∙_, Bool, true, false, cond, List, [], ℕ, _+_, _-_, _*_, _≤_, length, length-append, eqb, ltb, arith, le-ltb, ne-eqb, ltb-false}
-use Rattle.rules.specs.declared.call.Answer.{Answer}
-use Rattle.rules.specs.declared.table.Head.{Head}
-use Rattle.rules.specs.Numbers.{LOG-FULL, ENTRY}
-use Rattle.rules.specs.Lent.{Rows, Log, Table, entries}
-use Rattle.rules.specs.Answer.{refusal}
-use Rattle.rules.specs.Write.{Write, memory, memoryOf, withMemory, full, puts}
-use Rattle.rules.specs.Plan.{plan}
-use Rattle.rules.specs.Refusal.{outcome, refuse, refused, carry, sizesOf, bad}
+use Rattle.rules.specs.Rules.{Answer, Head, LOG-FULL, ENTRY, Rows, Log, Table, entries, refusal, Write, memory, memoryOf, withMemory, full, puts, plan, outcome}
+use Rattle.rules.specs.Rules.{refuse, refused, carry, sizesOf, bad}
 use Rattle.rules.proofs.StateLaws.{Good, bad-good}
 use Rattle.parts.specs.Bounds.{Even}
 use Rattle.plans.specs.declared.verdict.Finish.{Finish}

@@ -1,11 +1,6 @@
 -- The walks of a call, near or long: what the rules make of them. Assumes nothing.
 use Rattle.kit.specs.Names.{_≡_, refl, ap, sym, _∙_, [], ℕ, zero, suc, _+_, _≤_, _<_, arith, le-leb, lt-leb}
-use Rattle.rules.specs.Numbers.{NO-KEY}
-use Rattle.rules.specs.Lent.{Rows, Table}
-use Rattle.rules.specs.Write.{writes}
-use Rattle.rules.specs.Plan.{Plan, plan, Walked, walkedOn, goOn, rewrites, walk, walkBoth}
-use Rattle.rules.specs.Refusal.{refused, carry}
-use Rattle.rules.specs.Step.{call, step}
+use Rattle.rules.specs.Rules.{NO-KEY, Rows, Table, writes, Plan, plan, Walked, walkedOn, goOn, rewrites, walk, walkBoth, refused, carry, call, step}
 use Rattle.roots.specs.declared.near.Near.{Near}
 use Rattle.roots.proofs.NearLaws.{passedNear, Found}
 use Rattle.plans.specs.declared.verdict.OneCall.{OneCall}

@@ -1,14 +1,7 @@
 -- What is said of a call before and after it is written, for every state with the head, the last serial and the mark in question.
 use Rattle.kit.specs.Names.{_≡_, false, List, _++_, ℕ, _+_, length}
-use Rattle.rules.specs.declared.call.Call.{Call}
-use Rattle.rules.specs.declared.table.Head.{Head}
-use Rattle.rules.specs.declared.table.Mark.{Mark}
-use Rattle.rules.specs.declared.table.Sought.{Sought}
-use Rattle.rules.specs.declared.table.State.{State}
-use Rattle.rules.specs.Lent.{Rows, Log, Table, table}
-use Rattle.rules.specs.Write.{Write, memory, memoryOf, withMemory, puts}
-use Rattle.rules.specs.Refusal.{Outcome, outcome, refused, sizesOf, bad}
-use Rattle.rules.specs.Step.{step}
+use Rattle.rules.specs.Rules.{Call, Head, Mark, Sought, State, Rows, Log, Table, table, Write, memory, memoryOf, withMemory, puts, Outcome, outcome, refused}
+use Rattle.rules.specs.Rules.{sizesOf, bad, step}
 use Rattle.undo_log.specs.declared.tokens.Settled.{Settled}
 use Rattle.undo_log.specs.Settled.{stateWith, stateAfter, markFor}
 use Rattle.roots.specs.Trail.{walkOf, compressed, Sound}

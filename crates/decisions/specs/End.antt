@@ -1,10 +1,6 @@
 -- A decided call: what is written of it, what that leaves, and what it asks of the parts.
 use Rattle.kit.specs.Names.{ℕ, _-_, _≤_, length}
-use Rattle.rules.specs.declared.table.Head.{Head}
-use Rattle.rules.specs.Lent.{Rows, Log, row, head}
-use Rattle.rules.specs.Answer.{refusal}
-use Rattle.rules.specs.Write.{Memory, memory, push, puts}
-use Rattle.rules.specs.Tokens.{newestFirst, undo}
+use Rattle.rules.specs.Rules.{Head, Rows, Log, row, head, refusal, Memory, memory, push, puts, newestFirst, undo}
 use Rattle.parts.specs.Bounds.{InRows, Loggable}
 use Rattle.undo_log.specs.declared.tokens.Settled.{Settled}
 use Rattle.undo_log.specs.Settled.{settled}

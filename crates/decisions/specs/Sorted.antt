@@ -1,6 +1,6 @@
 -- The calls sorted by what they touch, as the code's own enums.
 use Prim.Native.Nat.{ℕ, _<_}
-use Rattle.rules.specs.declared.call.Call.{Call}
+use Rattle.rules.specs.Rules.{Call}
 use Rattle.rules.specs.declared.call.Call.the-variants as call
 use Rattle.plans.specs.declared.verdict.OneCall.{OneCall}
 use Rattle.plans.specs.declared.verdict.OneCall.the-variants.{Find, Probe, ProbeKey, Post}

@@ -1,6 +1,5 @@
 ghost use mathlib.Core.Path.{_≡_};
-ghost use Rattle.rules.specs.Answer.{refusal};
-ghost use Rattle.rules.specs.Lent.{row, head};
+ghost use Rattle.rules.specs.Rules.{refusal, row, head};
 ghost use Rattle.undo_log.specs.Settled.{settled};
 ghost use Rattle.decisions.specs.End.{stillTodo, verdictTodo};
 use makers::answer::refusal;

@@ -1,22 +1,10 @@
 -- A new key, a value without a walk and a rollback, refusal by refusal. Assumes nothing.
 use Rattle.kit.specs.Names.{_≡_, ap, sym, _∙_, true, false, cond, List, ℕ, _+_, _≤_, _<_, length, eqb, arith, le-leb, lt-leb, eq-eqb, ne-eqb}
-use Rattle.rules.specs.declared.call.Answer.{Answer}
+use Rattle.rules.specs.Rules.{Answer, Head, Mark, Owner, Row, Sought, State, Value, DONE, NO-KEY, KEYS-FULL, LOG-FULL, NOT-INNERMOST, BROKEN-TABLE, Rows, Log, table}
+use Rattle.rules.specs.Rules.{entries, ownerOf, value, row, rowAt, valueOf, head, refusal, found, held, said, memory, push, puts, since, undo, rolledBack, outcome}
+use Rattle.rules.specs.Rules.{refused, sizesOf, bad, call, step}
 use Rattle.rules.specs.declared.call.Call.the-variants.{New, TryProbe, Rollback}
-use Rattle.rules.specs.declared.table.Head.{Head}
-use Rattle.rules.specs.declared.table.Mark.{Mark}
-use Rattle.rules.specs.declared.table.Owner.{Owner}
-use Rattle.rules.specs.declared.table.Row.{Row}
-use Rattle.rules.specs.declared.table.Sought.{Sought}
 use Rattle.rules.specs.declared.table.Sought.the-variants.{Missing, Held}
-use Rattle.rules.specs.declared.table.State.{State}
-use Rattle.rules.specs.declared.table.Value.{Value}
-use Rattle.rules.specs.Numbers.{DONE, NO-KEY, KEYS-FULL, LOG-FULL, NOT-INNERMOST, BROKEN-TABLE}
-use Rattle.rules.specs.Lent.{Rows, Log, table, entries, ownerOf, value, row, rowAt, valueOf, head}
-use Rattle.rules.specs.Answer.{refusal, found, held, said}
-use Rattle.rules.specs.Write.{memory, push, puts}
-use Rattle.rules.specs.Tokens.{since, undo, rolledBack}
-use Rattle.rules.specs.Refusal.{outcome, refused, sizesOf, bad}
-use Rattle.rules.specs.Step.{call, step}
 use Rattle.parts.proofs.BoundLaws.{in-rows}
 use Rattle.undo_log.specs.declared.tokens.HeadCall.the-variants as head-call-case
 use Rattle.undo_log.specs.Settled.{settled, stateWith, latest, markFor}

@@ -1,8 +1,6 @@
 ghost use Rattle.kit.specs.Names.{_≡_, false, ℕ};
 ghost use Rattle.rules.specs.declared.call.Call.the-variants.{New, TryProbe};
-ghost use Rattle.rules.specs.declared.table.Sought.{Sought};
-ghost use Rattle.rules.specs.Contract.{rowsNow, rowsLent, logLent};
-ghost use Rattle.rules.specs.Refusal.{sizesOf, bad};
+ghost use Rattle.rules.specs.Rules.{Sought, rowsNow, rowsLent, logLent, sizesOf, bad};
 ghost use Rattle.decisions.specs.Decided.{Does};
 use decisions::todo::End;
 use decisions::todo::Todo;

@@ -1,6 +1,5 @@
 ghost use Rattle.kit.specs.Names.{_≡_, [], _∷_, _++_, _+_, _<_, length};
-ghost use Rattle.rules.specs.Contract.{memoryNow, memoryLent};
-ghost use Rattle.rules.specs.Write.{redirect, crown, puts};
+ghost use Rattle.rules.specs.Rules.{memoryNow, memoryLent, redirect, crown, puts};
 ghost use Rattle.roots.specs.Trail.{walkOf, compressed, Sound};
 ghost use Rattle.plans.specs.Plans.{finishOf, andThen, InsideEnd};
 ghost use Rattle.parts.specs.Ready.{Ready};

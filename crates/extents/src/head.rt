@@ -1,6 +1,6 @@
 // How much there is to be shown.
 ghost use mathlib.Core.Path.{_≡_};
-ghost use Rattle.rules.specs.Refusal.{sizes};
+ghost use Rattle.rules.specs.Rules.{sizes};
 ghost use Rattle.replies.specs.Replies.{allOf, inUse};
 use arrays::lengths::at_most;
 use arrays::lengths::most_entries;

@@ -1,7 +1,7 @@
 -- The part of a list from a place to a place, at each of its ends; and a number past a log's end. Assumes nothing.
 use Rattle.kit.specs.Names.{_≡_, refl, sym, _∙_, List, [], ℕ, zero, suc, _+_, _-_, _*_, _/_, _<_, _≤_, length, getD, take, drop, length-drop, drop-of-length-le, List·getD-eq-default, take-all}
 use Rattle.kit.specs.Names.{arith}
-use Rattle.rules.specs.Numbers.{ENTRY}
+use Rattle.rules.specs.Rules.{ENTRY}
 
 none-of-none : (n : ℕ) → _≡_ {A = List ℕ} [] (take n [])
 none-of-none zero = refl

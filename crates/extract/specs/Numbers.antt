@@ -1,9 +1,7 @@
 -- An entry of a log as its numbers, and what they say.
 use Rattle.kit.specs.Names.{cond, ℕ, _+_, _*_, getD, eqb}
-use Rattle.rules.specs.declared.table.UndoLog.{UndoLog}
+use Rattle.rules.specs.Rules.{UndoLog, ENTRY, KIND-UNKNOWN, KIND-NEW, KIND-SET, Log, oldAt}
 use Rattle.rules.specs.declared.table.UndoLog.the-variants.{NewElem, SetElem, Unknown}
-use Rattle.rules.specs.Numbers.{ENTRY, KIND-UNKNOWN, KIND-NEW, KIND-SET}
-use Rattle.rules.specs.Lent.{Log, oldAt}
 use Rattle.parts.specs.declared.entries.Numbers.{Numbers}
 
 -- The numbers of entry i as they stand, of whatever kind: an owner's number is lost in no row, since 0 alone reads as none.

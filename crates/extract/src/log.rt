@@ -1,8 +1,5 @@
 ghost use Rattle.kit.specs.Names.{_≡_, _+_, _*_, getD};
-ghost use Rattle.rules.specs.Numbers.{ENTRY};
-ghost use Rattle.rules.specs.Lent.{oldAt, entryAt};
-ghost use Rattle.rules.specs.Tokens.{viewed};
-ghost use Rattle.rules.specs.Contract.{logLent};
+ghost use Rattle.rules.specs.Rules.{ENTRY, oldAt, entryAt, viewed, logLent};
 ghost use Rattle.extract.specs.Numbers.{lentAt, actionOf};
 use parts::entries::Numbers;
 use rules::numbers::ENTRY;

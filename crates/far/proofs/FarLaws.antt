@@ -1,15 +1,7 @@
 -- Long walks: traced and judged, they come to what the rules make of them, and can be carried out. Assumes nothing.
 use Rattle.kit.specs.Names.{_≡_, refl, ap, ap₂, sym, _∙_, true, false, List, [], _++_, append-nil, ℕ, _+_, _-_, _<_, length, length-append, arith}
-use Rattle.rules.specs.declared.call.Call.{Call}
-use Rattle.rules.specs.declared.table.Head.{Head}
-use Rattle.rules.specs.declared.table.Mark.{Mark}
-use Rattle.rules.specs.Numbers.{BROKEN-TABLE, MAX-REDIRECTS}
-use Rattle.rules.specs.Lent.{Rows, Log, table, entries}
-use Rattle.rules.specs.Answer.{refusal}
-use Rattle.rules.specs.Walk.{broken, path}
-use Rattle.rules.specs.Plan.{Plan, plan, Walked, goOn, walk, walkBoth}
-use Rattle.rules.specs.Refusal.{refused, carry, sizesOf, bad}
-use Rattle.rules.specs.Step.{call, step}
+use Rattle.rules.specs.Rules.{Call, Head, Mark, BROKEN-TABLE, MAX-REDIRECTS, Rows, Log, table, entries, refusal, broken, path, Plan, plan, Walked, goOn, walk}
+use Rattle.rules.specs.Rules.{walkBoth, refused, carry, sizesOf, bad, call, step}
 use Rattle.undo_log.specs.Settled.{stateWith}
 use Rattle.roots.specs.declared.path.Trail.{Trail}
 use Rattle.roots.specs.Trail.{rootOf, traced, compressed, walkOf, Short, Sound, Idle}

@@ -1,7 +1,6 @@
 // Calls with a walk of two redirects or more: traced, and judged before anything is written.
 ghost use Rattle.kit.specs.Names.{_≡_, false, _-_, _<_};
-ghost use Rattle.rules.specs.Contract.{rowsNow, rowsLent, logLent};
-ghost use Rattle.rules.specs.Refusal.{sizesOf, bad};
+ghost use Rattle.rules.specs.Rules.{rowsNow, rowsLent, logLent, sizesOf, bad};
 ghost use Rattle.roots.specs.Trail.{Idle};
 ghost use Rattle.decisions.specs.Sorted.{walkCall, LiveKeys};
 ghost use Rattle.decisions.specs.Decided.{FarPlanned};

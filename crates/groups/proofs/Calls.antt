@@ -1,13 +1,9 @@
 -- Every call keeps what a table stands for, and is never answered BROKEN_TABLE or BAD_STATE; and a fresh table stands for nothing yet.
 use Rattle.kit.specs.Names.{_≡_, refl, false, List, [], _∷_, ℕ, zero-le, ltb, arith}
-use Rattle.rules.specs.declared.call.Call.{Call}
+use Rattle.rules.specs.Rules.{Call, Rows, Log, Table, table, value, ownerOf, fresh, headOf, said, range, findOn, unionedOn, joinOn, postOn, probeOn, probeKeyOn}
+use Rattle.rules.specs.Rules.{tryProbe, sizesOf, badTable, call, step}
 use Rattle.rules.specs.declared.call.Call.the-variants.{New, Len, Find, Unioned, Join, Post, Probe, ProbeKey, TryProbe, Snapshot, Rollback, Commit, Keys, Actions, Changes}
-use Rattle.rules.specs.Lent.{Rows, Log, Table, table, value, ownerOf, fresh, headOf}
-use Rattle.rules.specs.Answer.{said, range}
-use Rattle.rules.specs.Plan.{findOn, unionedOn, joinOn, postOn, probeOn, probeKeyOn, tryProbe}
-use Rattle.rules.specs.Refusal.{sizesOf, badTable}
 use Rattle.rules.proofs.StateLaws.{good-bad}
-use Rattle.rules.specs.Step.{call, step}
 use Rattle.groups.specs.Groups.{replay}
 use Rattle.groups.specs.Track.{History, Saved, track, lastToken, Orderly}
 use Rattle.groups.specs.Stands.{Lends, StandsOver}

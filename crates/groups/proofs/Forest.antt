@@ -1,8 +1,6 @@
 -- Rows that show groups: what a compression, a join, a post and a new key keep of that.
 use Rattle.kit.specs.Names.{_≡_, refl, sym, ap, _∙_, subst, subst⁻¹, fun-ext, _≢_, ℕ, suc, _≤_, _<_, arith, le-refl, le-step, le-trans, le-of-eq, not-suc-le-zero}
-use Rattle.rules.specs.declared.table.Value.{Value}
-use Rattle.rules.specs.declared.table.Row.{Row}
-use Rattle.rules.specs.Lent.{Rows, row, valueOf, rowAt}
+use Rattle.rules.specs.Rules.{Value, Row, Rows, row, valueOf, rowAt}
 use Rattle.groups.specs.Groups.{Groups, noGroups, created, at, shift, hung, groupStep}
 use Rattle.groups.specs.Stands.{up, high, LeadsTo, here, along, Shows, Alike}
 use Rattle.groups.proofs.Tools.{bySame, upTo}

@@ -1,12 +1,7 @@
 -- What it is that a call keeps; and what every call does that moves nothing but rows and log.
 use Rattle.kit.specs.Names.{_≡_, refl, false, List, _∷_, _++_, ℕ, _≤_, length, eqb}
-use Rattle.rules.specs.declared.call.Call.{Call}
-use Rattle.rules.specs.declared.call.Answer.{Answer}
-use Rattle.rules.specs.Numbers.{DONE, BROKEN-TABLE, BAD-STATE, MAX-OPEN}
-use Rattle.rules.specs.Lent.{Rows, Log, Table, table, markAt, head, withHead}
-use Rattle.rules.specs.Wide.{WideRows}
-use Rattle.rules.specs.Answer.{refusal}
-use Rattle.rules.specs.Refusal.{Outcome, outcome, refused}
+use Rattle.rules.specs.Rules.{Call, Answer, DONE, BROKEN-TABLE, BAD-STATE, MAX-OPEN, Rows, Log, Table, table, markAt, head, withHead, WideRows, refusal, Outcome}
+use Rattle.rules.specs.Rules.{outcome, refused}
 use Rattle.groups.specs.Groups.{Deed}
 use Rattle.groups.specs.Track.{Calm, Event, event, History, Act, idle, moves, takes, undoes, closes, act, deedOf, Saved, Track, noted, track, newer, lastToken, Follows, Orderly}
 use Rattle.groups.specs.Stands.{Made, overAfter, StandsOver}

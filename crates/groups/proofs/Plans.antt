@@ -1,20 +1,11 @@
 -- The plan of each call on rows: carried out, it moves the groups as the groups' own step says, and it is never BROKEN_TABLE.
 use Rattle.kit.specs.Names.{_≡_, refl, sym, ap, ap₂, _∙_, subst, subst⁻¹, true, false, cond, List, [], _∷_, _++_, _≢_, inl, inr, ℕ, _+_, _≤_, _<_, eqb, ltb, arith, eqb-true, eqb-false, eq-eqb}
 use Rattle.kit.specs.Names.{ne-eqb, le-ltb}
-use Rattle.rules.specs.declared.call.Call.{Call}
+use Rattle.rules.specs.Rules.{Call, Answer, Value, Row, Merged, DONE, BROKEN-TABLE, BAD-STATE, MAX-RANK, Rows, value, ownerOf, row, valueOf, rowAt, putRow, WideRows}
+use Rattle.rules.specs.Rules.{merge, Write, redirect, crown, edit, writes, stepped, found, Plan, plan, Walked, walkedOn, goOn, walk, walkBoth, settle, unite}
+use Rattle.rules.specs.Rules.{tooHigh, findOn, unionedOn, joinOn, postOn, probeOn, probeKeyOn, tryProbe}
 use Rattle.rules.specs.declared.call.Call.the-variants.{Find, Unioned, Join, Post, Probe, ProbeKey, TryProbe}
-use Rattle.rules.specs.declared.call.Answer.{Answer}
-use Rattle.rules.specs.declared.table.Value.{Value}
-use Rattle.rules.specs.declared.table.Row.{Row}
-use Rattle.rules.specs.declared.table.Merged.{Merged}
 use Rattle.rules.specs.declared.table.Merged.the-variants.{Clash, TooMuch, Both}
-use Rattle.rules.specs.Numbers.{DONE, BROKEN-TABLE, BAD-STATE, MAX-RANK}
-use Rattle.rules.specs.Lent.{Rows, value, ownerOf, row, valueOf, rowAt, putRow}
-use Rattle.rules.specs.Wide.{WideRows}
-use Rattle.rules.specs.Merge.{merge}
-use Rattle.rules.specs.Write.{Write, redirect, crown, edit, writes}
-use Rattle.rules.specs.Answer.{stepped, found}
-use Rattle.rules.specs.Plan.{Plan, plan, Walked, walkedOn, goOn, walk, walkBoth, settle, unite, tooHigh, findOn, unionedOn, joinOn, postOn, probeOn, probeKeyOn, tryProbe}
 use Rattle.rules.proofs.ReadLaws.{Real, real-owner, row-real, row-hit, row-miss, wide-put}
 use Rattle.rules.proofs.MergeLaws.{merge-real}
 use Rattle.groups.specs.Groups.{Groups, Deed, joined, posted, at, hung, raised, hungByRank, groupStep, replay, Accepts, Accepted}

@@ -1,17 +1,9 @@
 -- Calls on rows, and a new key: a table that stands for a history stands for it with the call.
 use Rattle.kit.specs.Names.{_≡_, refl, sym, _∙_, subst, false, _∷_, _≢_, ℕ, _+_, _-_, _≤_, _<_, length, eqb, ltb, leb, arith, eqb-false, eq-eqb, ne-eqb, ltb-false, leb-false}
-use Rattle.rules.specs.declared.call.Call.{Call}
+use Rattle.rules.specs.Rules.{Call, Value, Rows, Table, entries, value, ownerOf, row, putRow, markAt, WideRows, found, memoryOf, logged, full, puts, writes, Plan}
+use Rattle.rules.specs.Rules.{Walked, walk, walkBoth, undoable, refused, carry, new, live, one, two}
 use Rattle.rules.specs.declared.call.Call.the-variants.{New}
-use Rattle.rules.specs.declared.table.Value.{Value}
 use Rattle.rules.specs.declared.table.UndoLog.the-variants.{NewElem}
-use Rattle.rules.specs.Lent.{Rows, Table, entries, value, ownerOf, row, putRow, markAt}
-use Rattle.rules.specs.Wide.{WideRows}
-use Rattle.rules.specs.Answer.{found}
-use Rattle.rules.specs.Write.{memoryOf, logged, full, puts, writes}
-use Rattle.rules.specs.Plan.{Plan, Walked, walk, walkBoth}
-use Rattle.rules.specs.Tokens.{undoable}
-use Rattle.rules.specs.Refusal.{refused, carry}
-use Rattle.rules.specs.Step.{new, live, one, two}
 use Rattle.rules.proofs.RowLaws.{puts-rows}
 use Rattle.rules.proofs.EntryLaws.{new-back}
 use Rattle.rules.proofs.ReadLaws.{Real, real-owner, row-miss, wide-put}

@@ -1,10 +1,6 @@
 -- The central law: the groups that a table shows are those of the deeds that survive of its history, alone and in their order.
 use Rattle.kit.specs.Names.{_≡_, sym, ap, _∙_, subst, _∷_, _++_, ℕ, _^_, _≤_, _<_}
-use Rattle.rules.specs.declared.call.Call.{Call}
-use Rattle.rules.specs.Numbers.{MAX-REDIRECTS}
-use Rattle.rules.specs.Lent.{Table}
-use Rattle.rules.specs.Walk.{to, path}
-use Rattle.rules.specs.Step.{step}
+use Rattle.rules.specs.Rules.{Call, MAX-REDIRECTS, Table, to, path, step}
 use Rattle.groups.specs.Sums.{Credits, total, ones, size}
 use Rattle.groups.specs.Groups.{Groups, replay}
 use Rattle.groups.specs.Shown.{walkIn, endOf, stepsIn, groupsOf, Same}

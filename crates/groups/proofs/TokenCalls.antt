@@ -1,19 +1,10 @@
 -- Snapshots, rollbacks, commits and questions: a table that stands for a history stands for it with the call.
 use Rattle.kit.specs.Names.{_≡_, refl, sym, ap, _∙_, subst, false, List, [], _∷_, _≢_, ℕ, zero, suc, _+_, _-_, _≤_, _<_, zero-le, length, length-set, eqb, getD-set-same, getD-set-other, arith}
 use Rattle.kit.specs.Names.{le-refl, eqb-true, eqb-false, eq-eqb, ne-eqb, le-ltb}
-use Rattle.rules.specs.declared.call.Call.{Call}
+use Rattle.rules.specs.Rules.{Call, Answer, Mark, State, UndoLog, DONE, MAX-OPEN, MAX-U64, Table, table, mark, markAt, head, headOf, withHead, Rows, rowAt, WideRows}
+use Rattle.rules.specs.Rules.{refusal, marked, innermost, seek, unfit, stranded, snapshot, committed, commit, asked, ask, newestFirst, since, undoable, undo}
+use Rattle.rules.specs.Rules.{rolledBack, Outcome, resting, rollback}
 use Rattle.rules.specs.declared.call.Call.the-variants.{Snapshot, Rollback, Commit}
-use Rattle.rules.specs.declared.call.Answer.{Answer}
-use Rattle.rules.specs.declared.table.Mark.{Mark}
-use Rattle.rules.specs.declared.table.State.{State}
-use Rattle.rules.specs.declared.table.UndoLog.{UndoLog}
-use Rattle.rules.specs.Numbers.{DONE, MAX-OPEN, MAX-U64}
-use Rattle.rules.specs.Lent.{Table, table, mark, markAt, head, headOf, withHead, Rows, rowAt}
-use Rattle.rules.specs.Wide.{WideRows}
-use Rattle.rules.specs.Answer.{refusal}
-use Rattle.rules.specs.Tokens.{marked, innermost, seek, unfit, stranded, snapshot, committed, commit, asked, ask, newestFirst, since, undoable, undo, rolledBack}
-use Rattle.rules.specs.Refusal.{Outcome}
-use Rattle.rules.specs.Step.{resting, rollback}
 use Rattle.groups.specs.Groups.{Deed, at}
 use Rattle.groups.specs.Track.{Calm, event, History, idle, act, Saved, restored, track, lastToken, Orderly, Event, dropped, noted, newer, Innermost, Follows, undoes}
 use Rattle.groups.specs.Stands.{Made, LeadsBack, Alike, overAfter, StandsOver}

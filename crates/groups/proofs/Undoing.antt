@@ -2,15 +2,9 @@
 -- keeps it so.
 use Rattle.kit.specs.Names.{_≡_, refl, sym, ap, _∙_, true, true≢false, and-eq-true-iff, List, [], _∷_, _++_, _≢_, ℕ, zero, suc, _+_, _-_, _*_, _≤_, _<_, length, eqb, ltb, arith, le-refl, eqb-true}
 use Rattle.kit.specs.Names.{ltb-true, eq-eqb, ne-eqb, lt-ltb}
-use Rattle.rules.specs.declared.table.UndoLog.{UndoLog}
+use Rattle.rules.specs.Rules.{UndoLog, Mark, Row, ENTRY, Rows, Log, rowAt, putRow, entryAt, putEntry, WideRows, WideLog, Write, place, write, Memory, logged, put}
+use Rattle.rules.specs.Rules.{puts, newestFirst, undoable, reversed, undo}
 use Rattle.rules.specs.declared.table.UndoLog.the-variants.{NewElem, SetElem, Unknown}
-use Rattle.rules.specs.declared.table.Mark.{Mark}
-use Rattle.rules.specs.declared.table.Row.{Row}
-use Rattle.rules.specs.Numbers.{ENTRY}
-use Rattle.rules.specs.Lent.{Rows, Log, rowAt, putRow, entryAt, putEntry}
-use Rattle.rules.specs.Wide.{WideRows, WideLog}
-use Rattle.rules.specs.Write.{Write, place, write, Memory, logged, put, puts}
-use Rattle.rules.specs.Tokens.{newestFirst, undoable, reversed, undo}
 use Rattle.rules.proofs.RowLaws.{undone}
 use Rattle.rules.proofs.EntryLaws.{changed-back}
 use Rattle.rules.proofs.ReadLaws.{row-read, row-miss, wide-put, entry-miss, wide-entry}

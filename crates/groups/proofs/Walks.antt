@@ -1,13 +1,8 @@
 -- The walk of the rules: it ends at the key's root within 16 redirects, and what it rewrites leaves the groups as they are.
 use Rattle.kit.specs.Names.{_≡_, refl, sym, ap, _∙_, subst, List, [], _∷_, _++_, _≢_, ℕ, zero, suc, _+_, _^_, _≤_, _<_, length, getD, arith, le-trans, eq-eqb, ne-eqb, lt-ltb}
 use lib.Pow.{pow-mono}
-use Rattle.rules.specs.declared.table.Row.{Row}
-use Rattle.rules.specs.Numbers.{MAX-ROWS, MAX-REDIRECTS}
-use Rattle.rules.specs.Lent.{Rows, row, valueOf, rowAt, putRow}
-use Rattle.rules.specs.Wide.{WideRows}
-use Rattle.rules.specs.Walk.{to, from, path}
-use Rattle.rules.specs.Write.{Write, redirect, place, edit, write, writes}
-use Rattle.rules.specs.Plan.{rewrites}
+use Rattle.rules.specs.Rules.{Row, MAX-ROWS, MAX-REDIRECTS, Rows, row, valueOf, rowAt, putRow, WideRows, to, from, path, Write, redirect, place, edit, write, writes}
+use Rattle.rules.specs.Rules.{rewrites}
 use Rattle.rules.proofs.ReadLaws.{Real, row-real, row-hit, row-miss, wide-put}
 use Rattle.groups.specs.Sums.{size}
 use Rattle.groups.specs.Groups.{Groups}

@@ -3,10 +3,8 @@
 use Rattle.kit.specs.Names.{_≡_, refl, sym, ap, _∙_, subst⁻¹, cond, List, [], _∷_, _≢_, _⊎_, inl, inr, ℕ, suc, _+_, _^_, _≤_, _<_, ltb, lit<, arith, add-one, le-refl, le-trans, lt-of-not-le}
 use Rattle.kit.specs.Names.{not-le-of-lt, le-of-suc-le-suc, not-suc-le-zero, eq-eqb, ne-eqb, ltb-true, ltb-false}
 use lib.Pow.{pow-mono}
-use Rattle.rules.specs.declared.table.Value.{Value}
+use Rattle.rules.specs.Rules.{Value, merge, MAX-ROWS, MAX-RANK}
 use Rattle.rules.specs.declared.table.Merged.the-variants.{Both}
-use Rattle.rules.specs.Merge.{merge}
-use Rattle.rules.specs.Numbers.{MAX-ROWS, MAX-RANK}
 use Rattle.groups.specs.Sums.{total, ones, size}
 use Rattle.groups.specs.Groups.{Groups, noGroups, Deed, created, joined, posted, at, shift, hung, raised, groupStep, replay, Accepts, Accepted}
 use Rattle.groups.proofs.Tools.{cases, bySame, upTo, either}

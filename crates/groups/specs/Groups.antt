@@ -1,10 +1,7 @@
 -- Document 01, "The meter's table", without parents and without a log: what a creation, a join and a post make of the groups.
 use Rattle.kit.specs.Names.{_≡_, cond, List, [], _∷_, _⊎_, ℕ, suc, _+_, _<_, eqb, ltb}
-use Rattle.rules.specs.declared.table.Value.{Value}
-use Rattle.rules.specs.declared.table.Merged.{Merged}
+use Rattle.rules.specs.Rules.{Value, Merged, none, merge}
 use Rattle.rules.specs.declared.table.Merged.the-variants.{Clash, TooMuch, Both}
-use Rattle.rules.specs.Lent.{none}
-use Rattle.rules.specs.Merge.{merge}
 
 -- The root of each key, each root's rank, and its owner and amount. "Live keys are 0 to count − 1"; a key that is not there yet is
 -- its own root. "only a root's rank, owner and amount mean anything".

@@ -1,8 +1,6 @@
 -- The groups that a table shows, read off it by the walk of the rules.
 use Rattle.kit.specs.Names.{_≡_, List, [], ℕ, _<_}
-use Rattle.rules.specs.Numbers.{MAX-REDIRECTS}
-use Rattle.rules.specs.Lent.{Table, valueOf, rowAt}
-use Rattle.rules.specs.Walk.{Path, broken, to, path, steps}
+use Rattle.rules.specs.Rules.{MAX-REDIRECTS, Table, valueOf, rowAt, Path, broken, to, path, steps}
 use Rattle.groups.specs.Groups.{Groups}
 
 -- ---- the walk from a key

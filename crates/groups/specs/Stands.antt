@@ -1,12 +1,8 @@
 -- When a table stands for a history: its rows show the groups after the deeds that survive, and its log leads back from snapshot to
 -- snapshot to rows that show the groups as each was taken.
 use Rattle.kit.specs.Names.{_≡_, true, List, [], _∷_, _≢_, ℕ, _-_, _≤_, _<_, length}
-use Rattle.rules.specs.declared.table.UndoLog.{UndoLog}
-use Rattle.rules.specs.declared.table.Mark.{Mark}
-use Rattle.rules.specs.Numbers.{MAX-ROWS, MAX-ENTRIES, MAX-OPEN}
-use Rattle.rules.specs.Lent.{Rows, Log, Table, valueOf, rowAt, markAt}
-use Rattle.rules.specs.Wide.{WideRows, WideLog}
-use Rattle.rules.specs.Tokens.{newestFirst, undoable, undo}
+use Rattle.rules.specs.Rules.{UndoLog, Mark, MAX-ROWS, MAX-ENTRIES, MAX-OPEN, Rows, Log, Table, valueOf, rowAt, markAt, WideRows, WideLog, newestFirst, undoable}
+use Rattle.rules.specs.Rules.{undo}
 use Rattle.groups.specs.Groups.{Groups, Deed, at, replay, Accepted}
 use Rattle.groups.specs.Track.{History, Act, idle, moves, takes, undoes, closes, Saved, track, lastToken, Orderly}
 

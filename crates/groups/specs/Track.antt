@@ -1,11 +1,8 @@
 -- A history, and what of it survives, kept as a stack: what has survived now, and what had survived as each open snapshot was taken.
 -- Crate `history` has survival in document 01's own words, and the proof that the two are equal.
 use Rattle.kit.specs.Names.{_≡_, Bool, cond, List, [], _∷_, _≢_, ℕ, _<_, eqb}
-use Rattle.rules.specs.declared.call.Call.{Call}
+use Rattle.rules.specs.Rules.{Call, Answer, DONE, BROKEN-TABLE, BAD-STATE, value, ownerOf}
 use Rattle.rules.specs.declared.call.Call.the-variants.{New, Len, Find, Unioned, Join, Post, Probe, ProbeKey, TryProbe, Snapshot, Rollback, Commit, Keys, Actions, Changes}
-use Rattle.rules.specs.declared.call.Answer.{Answer}
-use Rattle.rules.specs.Numbers.{DONE, BROKEN-TABLE, BAD-STATE}
-use Rattle.rules.specs.Lent.{value, ownerOf}
 use Rattle.groups.specs.Groups.{Deed, created, joined, posted}
 
 -- ---- a history: the calls and their answers, the newest first

@@ -1,6 +1,6 @@
 // The calls that neither read nor write rows and entries, over a head, the last serial and the mark in question.
 ghost use Rattle.kit.specs.Names.{_≡_, _≤_};
-ghost use Rattle.rules.specs.Numbers.{MAX-OPEN};
+ghost use Rattle.rules.specs.Rules.{MAX-OPEN};
 ghost use Rattle.undo_log.specs.HeadCalls.{onHead};
 use questions::calls::actions_since;
 use questions::calls::has_changes;

@@ -1,10 +1,8 @@
 -- The groups that accepted deeds make, and what the deeds come to: links, sums, owners and keys.
 use Rattle.kit.specs.Names.{_≡_, refl, sym, ap, ap₂, _∙_, List, [], _∷_, _↔_, _≢_, inl, inr, ℕ, suc, _+_, _<_, eqb, arith, le-refl, not-suc-le-zero, eqb-true, eqb-false, eq-eqb, ne-eqb}
-use Rattle.rules.specs.declared.table.Owner.{Owner}
+use Rattle.rules.specs.Rules.{Owner, Value, merge}
 use Rattle.rules.specs.declared.table.Owner.the-variants.{Nobody, Tenant}
-use Rattle.rules.specs.declared.table.Value.{Value}
 use Rattle.rules.specs.declared.table.Merged.the-variants.{Both}
-use Rattle.rules.specs.Merge.{merge}
 use Rattle.rules.proofs.MergeLaws.{merge-adds, merge-names}
 use Rattle.groups.specs.Sums.{total}
 use Rattle.groups.specs.Groups.{Groups, Deed, created, joined, posted, shift, hung, groupStep, replay, Accepts, Accepted}

@@ -1,18 +1,9 @@
 -- Demand 3: of every table that stands for a history, and so of every one that is reached from a fresh table.
 use Rattle.kit.specs.Names.{_≡_, refl, sym, ap, _∙_, subst⁻¹, Bool, true, false, List, [], _∷_, _↔_, _≢_, ℕ, _<_, length, eqb, arith, eqb-false}
-use Rattle.rules.specs.declared.call.Call.{Call}
+use Rattle.rules.specs.Rules.{Call, Owner, Value, DONE, BAD-STATE, NO-KEY, LOG-FULL, Rows, Table, rowAt, found, Path, broken, to, memoryOf, withMemory, full, puts}
+use Rattle.rules.specs.Rules.{Plan, walkedOn, goOn, findOn, Outcome, outcome, refuse, carry, badTable, notLive, live, call, step}
 use Rattle.rules.specs.declared.call.Call.the-variants.{Find}
-use Rattle.rules.specs.declared.table.Owner.{Owner}
 use Rattle.rules.specs.declared.table.Owner.the-variants.{Nobody, Tenant}
-use Rattle.rules.specs.declared.table.Value.{Value}
-use Rattle.rules.specs.Numbers.{DONE, BAD-STATE, NO-KEY, LOG-FULL}
-use Rattle.rules.specs.Lent.{Rows, Table, rowAt}
-use Rattle.rules.specs.Answer.{found}
-use Rattle.rules.specs.Walk.{Path, broken, to}
-use Rattle.rules.specs.Write.{memoryOf, withMemory, full, puts}
-use Rattle.rules.specs.Plan.{Plan, walkedOn, goOn, findOn}
-use Rattle.rules.specs.Refusal.{Outcome, outcome, refuse, carry, badTable}
-use Rattle.rules.specs.Step.{notLive, live, call, step}
 use Rattle.groups.specs.Groups.{Groups, Deed, replay}
 use Rattle.groups.specs.Shown.{walkIn, endOf, passedOn, rootIn, stepsIn, groupsOf, Same}
 use Rattle.groups.specs.Track.{History, event, act}

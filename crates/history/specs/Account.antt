@@ -1,8 +1,7 @@
 -- What creations, joins and posts come to: which keys are linked, what was put on each key, whom it names.
 use Rattle.kit.specs.Names.{_≡_, cond, List, [], _∷_, List·Memᴰ, ℕ, zero, suc, eqb}
-use Rattle.rules.specs.declared.table.Owner.{Owner}
+use Rattle.rules.specs.Rules.{Owner, Value}
 use Rattle.rules.specs.declared.table.Owner.the-variants.{Nobody, Tenant}
-use Rattle.rules.specs.declared.table.Value.{Value}
 use Rattle.groups.specs.Sums.{Credits}
 use Rattle.groups.specs.Groups.{Deed, created, joined, posted}
 

@@ -1,14 +1,8 @@
 -- Demand 3, sentence by sentence, of a table and the history that led to it; and the histories that it is promised for.
 use Rattle.kit.specs.Names.{_≡_, List, [], _∷_, _↔_, ℕ, _^_, _≤_, _<_}
-use Rattle.rules.specs.declared.call.Call.{Call}
+use Rattle.rules.specs.Rules.{Call, DONE, Rows, Log, Table, table, fresh, rowAt, found, to, walkedOn, step}
 use Rattle.rules.specs.declared.call.Call.the-variants.{Find}
 use Rattle.rules.specs.declared.table.Owner.the-variants.{Nobody, Tenant}
-use Rattle.rules.specs.Numbers.{DONE}
-use Rattle.rules.specs.Lent.{Rows, Log, Table, table, fresh, rowAt}
-use Rattle.rules.specs.Answer.{found}
-use Rattle.rules.specs.Walk.{to}
-use Rattle.rules.specs.Plan.{walkedOn}
-use Rattle.rules.specs.Step.{step}
 use Rattle.groups.specs.Sums.{Credits, total, size}
 use Rattle.groups.specs.Shown.{walkIn, passedOn, rootIn, stepsIn}
 use Rattle.groups.specs.Track.{History, event, Calm}

@@ -1,15 +1,7 @@
 -- Two walks: what the code makes of where they lead is what the rules make of it. Assumes nothing.
 use Rattle.kit.specs.Names.{_≡_, ap, ap₂, sym, _∙_, _++_, ℕ, _≤_, _<_, eqb, lt-ltb, le-ltb, eq-eqb, ne-eqb}
-use Rattle.rules.specs.declared.call.Answer.{Answer}
-use Rattle.rules.specs.declared.table.Row.{Row}
-use Rattle.rules.specs.declared.table.Value.{Value}
-use Rattle.rules.specs.declared.table.Merged.{Merged}
+use Rattle.rules.specs.Rules.{Answer, Row, Value, Merged, DONE, BROKEN-TABLE, OWNER-CLASH, TOO-MUCH, MAX-RANK, Rows, rowAt, valueOf, said, stepped, merge, plan}
 use Rattle.rules.specs.declared.table.Merged.the-variants.{Clash, TooMuch, Both}
-use Rattle.rules.specs.Numbers.{DONE, BROKEN-TABLE, OWNER-CLASH, TOO-MUCH, MAX-RANK}
-use Rattle.rules.specs.Lent.{Rows, rowAt, valueOf}
-use Rattle.rules.specs.Answer.{said, stepped}
-use Rattle.rules.specs.Merge.{merge}
-use Rattle.rules.specs.Plan.{plan}
 use Rattle.plans.specs.declared.verdict.Finish.{Finish}
 use Rattle.plans.specs.declared.verdict.Finish.the-variants.{Nothing}
 use Rattle.plans.specs.declared.verdict.Verdict.the-variants.{Refused, Planned}

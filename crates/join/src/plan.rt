@@ -1,5 +1,5 @@
 ghost use Rattle.kit.specs.Names.{_≡_, ℕ, _≤_, _<_};
-ghost use Rattle.rules.specs.Numbers.{MAX-RANK};
+ghost use Rattle.rules.specs.Rules.{MAX-RANK};
 ghost use Rattle.plans.specs.Plans.{finishOf, united, InsideEnd, Inside, Joined};
 use makers::answer::stepped;
 use plans::verdict::Finish;

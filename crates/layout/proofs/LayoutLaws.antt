@@ -1,15 +1,9 @@
 -- The numbers of a state: what stands where, what a call writes, and that numbers and state are each other's. Assumes nothing.
 use Rattle.kit.specs.Names.{_≡_, refl, sym, ap, _∙_, Bool, true, false, cond, List, [], _∷_, map, ℕ, zero, suc, _+_, _-_, _≤_, _<_, length, getD, set, ltb}
 use Rattle.kit.specs.Names.{length-set, set-out, arith, add-one, lt-ltb, le-ltb, eq-eqb, ne-eqb}
-use Rattle.rules.specs.declared.call.Call.{Call}
+use Rattle.rules.specs.Rules.{Call, Head, Mark, State, MAX-OPEN, mark, markAt, innermost, seek}
 use Rattle.rules.specs.declared.call.Call.the-variants.{Rollback, Commit, Keys, Actions, Changes}
-use Rattle.rules.specs.declared.table.Head.{Head}
-use Rattle.rules.specs.declared.table.Mark.{Mark}
 use Rattle.rules.specs.declared.table.Sought.the-variants.{Missing, Held}
-use Rattle.rules.specs.declared.table.State.{State}
-use Rattle.rules.specs.Numbers.{MAX-OPEN}
-use Rattle.rules.specs.Lent.{mark, markAt}
-use Rattle.rules.specs.Tokens.{innermost, seek}
 use Rattle.undo_log.specs.declared.tokens.Settled.{Settled}
 use Rattle.undo_log.specs.Settled.{stateAfter, latest, markOf, markFor}
 use Rattle.undo_log.proofs.MarkLaws.{seek-hit, seek-miss}

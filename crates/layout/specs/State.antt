@@ -1,10 +1,7 @@
 -- A state as lent numbers. Short ones: count, used, open, then each mark's log length and keys, outermost first. Long ones: the last
 -- serial, then each mark's serial.
 use Rattle.kit.specs.Names.{_≡_, List, [], _∷_, map, ℕ, length, getD, set, drop}
-use Rattle.rules.specs.declared.table.Head.{Head}
-use Rattle.rules.specs.declared.table.Mark.{Mark}
-use Rattle.rules.specs.declared.table.State.{State}
-use Rattle.rules.specs.Lent.{mark, head}
+use Rattle.rules.specs.Rules.{Head, Mark, State, mark, head}
 use Rattle.undo_log.specs.Settled.{stateWith}
 
 -- How many of each there are: three and two for each of the 32 marks; one, and one for each.

@@ -1,9 +1,7 @@
 // The state of a table as the numbers that the host lends: no more of it is read than a call is about.
 ghost use Rattle.kit.specs.Names.{_≡_, _≤_, _<_, length};
 ghost use Rattle.rules.specs.declared.call.Call.the-variants.{Rollback, Keys};
-ghost use Rattle.rules.specs.Numbers.{MAX-OPEN};
-ghost use Rattle.rules.specs.Lent.{markAt};
-ghost use Rattle.rules.specs.Tokens.{seek};
+ghost use Rattle.rules.specs.Rules.{MAX-OPEN, markAt, seek};
 ghost use Rattle.undo_log.specs.Settled.{latest, markFor};
 ghost use Rattle.layout.specs.State.{NUMBERS, Sized, headIn, stateBy, stateOf};
 use rules::numbers::MAX_OPEN;

@@ -1,9 +1,7 @@
 -- An answer's fields as numbers. Assumes nothing.
 use Rattle.kit.specs.Names.{_≡_, refl, Bool, true, false, [], _∷_, ℕ}
 use mir.Val.{boolByte}
-use Rattle.rules.specs.declared.call.Answer.{Answer}
-use Rattle.rules.specs.Lent.{numberOf}
-use Rattle.rules.specs.Answer.{bit, answerNumbers}
+use Rattle.rules.specs.Rules.{Answer, numberOf, bit, answerNumbers}
 
 byte-bit : (b : Bool) → boolByte b ≡ bit b
 byte-bit true = refl

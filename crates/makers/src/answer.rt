@@ -1,7 +1,5 @@
 ghost use mathlib.Core.Path.{_≡_};
-ghost use Rattle.rules.specs.Numbers.{DONE};
-ghost use Rattle.rules.specs.Lent.{none};
-ghost use Rattle.rules.specs.Answer.{answer, refusal, stepped, found, probed, held, said, range, opened, answerNumbers};
+ghost use Rattle.rules.specs.Rules.{DONE, none, answer, refusal, stepped, found, probed, held, said, range, opened, answerNumbers};
 use crate::owner::number_of;
 use rules::call::Answer;
 use rules::numbers::DONE;

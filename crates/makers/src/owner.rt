@@ -1,5 +1,5 @@
 ghost use mathlib.Core.Path.{_≡_};
-ghost use Rattle.rules.specs.Lent.{ownerOf, numberOf};
+ghost use Rattle.rules.specs.Rules.{ownerOf, numberOf};
 use rules::table::Owner;
 
 // The owner that a lent number means: 0 is none.

@@ -1,7 +1,7 @@
 -- Laws of the parents that a walk leaves on its path, and of the path from another key there. Assumes nothing.
 use Rattle.kit.specs.Names.{_≡_, refl, ap, sym, _∙_, true, List, [], _∷_, append-nil, ℕ, zero, suc, _+_, _-_, _≤_, _<_, length, getD, take, set, length-set, length-take, getD-set-same}
 use Rattle.kit.specs.Names.{getD-set-other, set-out, take-set-le, getD-take, arith, decLt, ℕ-discrete}
-use Rattle.rules.specs.Walk.{broken, to, path}
+use Rattle.rules.specs.Rules.{broken, to, path}
 use Rattle.roots.specs.declared.path.Trail.{Trail}
 use Rattle.roots.specs.Trail.{rootOf, passedOf, compress, compressed, traced, Short}
 use Rattle.roots.proofs.PathLaws.{path-root, along, along-to, trace-root, trace-out, trace-spent, trace-more}

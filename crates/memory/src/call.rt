@@ -1,5 +1,5 @@
 ghost use mathlib.Core.Path.{_≡_};
-ghost use Rattle.rules.specs.Contract.{tableLent};
+ghost use Rattle.rules.specs.Rules.{tableLent};
 ghost use Rattle.arrays.specs.Cut.{left, called};
 use arrays::lengths::at_most;
 use arrays::reply::Changed;

@@ -1,5 +1,5 @@
 ghost use mathlib.Core.Path.{_≡_};
-ghost use Rattle.rules.specs.Contract.{tableLent};
+ghost use Rattle.rules.specs.Rules.{tableLent};
 ghost use Rattle.arrays.specs.Cut.{left};
 ghost use Rattle.damage.specs.Commands.{changed};
 use crate::call::call_lent;

@@ -1,7 +1,6 @@
 -- Laws of a turn. Assumes nothing.
 use Rattle.kit.specs.Names.{_≡_, refl, ap, sym, _∙_, true, false, cond, List, ℕ}
-use Rattle.rules.specs.declared.table.State.{State}
-use Rattle.rules.specs.Lent.{Rows, Log, Table, table}
+use Rattle.rules.specs.Rules.{State, Rows, Log, Table, table}
 use Rattle.commands.specs.declared.command.Command.{Command}
 use Rattle.arrays.specs.declared.reply.Changed.{Changed}
 use Rattle.arrays.specs.Cut.{Left, left}

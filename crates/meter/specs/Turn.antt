@@ -1,7 +1,6 @@
 -- A turn of the program: a line gathered, its command carried out, its reply printed.
 use Rattle.kit.specs.Names.{cond, List, ℕ}
-use Rattle.rules.specs.declared.table.State.{State}
-use Rattle.rules.specs.Lent.{Table}
+use Rattle.rules.specs.Rules.{State, Table}
 use Rattle.damage.specs.Commands.{changed}
 use Rattle.reading.specs.declared.read.Reading.{Reading}
 use Rattle.lines.specs.Lines.{line, lineCommand}

@@ -1,6 +1,6 @@
 // A turn of the program: a line gathered, its command carried out, its reply printed.
 ghost use Rattle.kit.specs.Names.{_≡_, _≤_, _<_, length};
-ghost use Rattle.rules.specs.Contract.{tableLent};
+ghost use Rattle.rules.specs.Rules.{tableLent};
 ghost use Rattle.meter.specs.Turn.{replying, answering, turned, turning};
 use lines::line::command_of;
 use memory::change::change;

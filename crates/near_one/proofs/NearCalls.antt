@@ -1,12 +1,6 @@
 -- Calls whose walks are near, decided. Assumes nothing.
 use Rattle.kit.specs.Names.{_≡_, refl, ap, _∙_, false, [], ℕ, _+_, _≤_, _<_}
-use Rattle.rules.specs.declared.table.Head.{Head}
-use Rattle.rules.specs.declared.table.Sought.{Sought}
-use Rattle.rules.specs.Numbers.{NO-KEY}
-use Rattle.rules.specs.Lent.{Rows, Log, table, entries}
-use Rattle.rules.specs.Answer.{refusal}
-use Rattle.rules.specs.Refusal.{carry, sizesOf, bad}
-use Rattle.rules.specs.Step.{step}
+use Rattle.rules.specs.Rules.{Head, Sought, NO-KEY, Rows, Log, table, entries, refusal, carry, sizesOf, bad, step}
 use Rattle.undo_log.specs.Settled.{settled, stateWith}
 use Rattle.roots.specs.declared.near.Near.{Near}
 use Rattle.roots.proofs.NearLaws.{Found}

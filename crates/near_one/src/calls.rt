@@ -1,6 +1,5 @@
 ghost use Rattle.kit.specs.Names.{_≡_, false};
-ghost use Rattle.rules.specs.Contract.{rowsNow, rowsLent, logLent};
-ghost use Rattle.rules.specs.Refusal.{sizesOf, bad};
+ghost use Rattle.rules.specs.Rules.{rowsNow, rowsLent, logLent, sizesOf, bad};
 ghost use Rattle.decisions.specs.Sorted.{walkCall};
 ghost use Rattle.decisions.specs.Decided.{DecidedAnyhow};
 ghost use Rattle.decisions.specs.declared.sorted.WalkCall.the-variants.{One};

@@ -1,13 +1,6 @@
 -- One call, with its mark at hand and what it leaves written. Assumes nothing.
 use Rattle.kit.specs.Names.{_≡_, sym, ap, _∙_, List, ℕ}
-use Rattle.rules.specs.declared.call.Call.{Call}
-use Rattle.rules.specs.declared.table.Head.{Head}
-use Rattle.rules.specs.declared.table.Mark.{Mark}
-use Rattle.rules.specs.declared.table.Sought.{Sought}
-use Rattle.rules.specs.declared.table.State.{State}
-use Rattle.rules.specs.Lent.{Table}
-use Rattle.rules.specs.Refusal.{outcome}
-use Rattle.rules.specs.Step.{step}
+use Rattle.rules.specs.Rules.{Call, Head, Mark, Sought, State, Table, outcome, step}
 use Rattle.undo_log.specs.declared.tokens.Settled.{Settled}
 use Rattle.undo_log.specs.Settled.{stateWith, stateAfter, markFor}
 use Rattle.decisions.specs.Decided.{Carried}

@@ -2,8 +2,7 @@
 use Rattle.kit.specs.Names.{_≡_, refl, true, [], _∷_, _-_, arith}
 use denote.Enum.Declared.{tagOf}
 use types.Run.{OneOf, miss}
-use Rattle.rules.specs.declared.table.State.{State}
-use Rattle.rules.specs.Lent.{Rows, Log, Table, table}
+use Rattle.rules.specs.Rules.{State, Rows, Log, Table, table}
 use Rattle.commands.proofs.command.Command.{the-type}
 use Rattle.commands.specs.declared.command.Command.{Command}
 use Rattle.commands.specs.declared.command.Command.the-variants as command

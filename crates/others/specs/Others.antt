@@ -1,6 +1,6 @@
 -- What a command leaves that is no call.
 use mathlib.Core.Bool.{Bool, true, false, cond, _||_}
-use Rattle.rules.specs.Lent.{Table}
+use Rattle.rules.specs.Rules.{Table}
 use Rattle.commands.specs.declared.command.Command.{Command}
 use Rattle.commands.specs.declared.command.Command.the-variants as command
 use Rattle.commands.specs.declared.command.Lengths.{Lengths}

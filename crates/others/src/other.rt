@@ -1,6 +1,5 @@
 ghost use mathlib.Core.Path.{_≡_};
-ghost use Rattle.rules.specs.Contract.{tableLent};
-ghost use Rattle.rules.specs.Lent.{Rows, Log, table};
+ghost use Rattle.rules.specs.Rules.{tableLent, Rows, Log, table};
 ghost use Rattle.arrays.specs.Cut.{left};
 ghost use Rattle.damage.specs.Commands.{lentLeft};
 ghost use Rattle.others.specs.Others.{lendingLeft, otherwise};

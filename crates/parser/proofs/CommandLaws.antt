@@ -2,7 +2,7 @@
 use Rattle.kit.specs.Names.{_≡_, refl, ap, sym, _∙_, fun-ext, Bool, true, false, cond, List, [], _∷_, _++_, append-nil, map, ℕ, zero, suc, _+_, _*_, _/_, _%_, _≤_, _<_, length, getD, set, take}
 use Rattle.kit.specs.Names.{drop, replicate, drop-of-length-le, take-append-drop, List·getD-map, eqb, leb, drop-cons, drop-drop, getD-drop, getD-set-other, getD-set-same, getD-take, arith, decLt}
 use Rattle.kit.specs.Names.{ℕ-discrete, add-one, add-mul-div-left, add-mul-mod-self-left, mod-eq-of-lt, eq-eqb, leb-true, ne-eqb}
-use Rattle.rules.specs.Numbers.{WORD}
+use Rattle.rules.specs.Rules.{WORD}
 use Rattle.words.proofs.LineLaws.{no-words}
 use Rattle.words.proofs.NumeralLaws.{in-limit, says}
 use Rattle.parser.specs.Command.{commandOf, fit, limitOf, commandWith, ofWords}

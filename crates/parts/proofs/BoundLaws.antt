@@ -1,7 +1,6 @@
 -- Where the lent parts fit one another, every row and every entry lies within them. Assumes nothing.
 use Rattle.kit.specs.Names.{_≡_, ℕ, _*_, _≤_, _<_, length, arith}
-use Rattle.rules.specs.Numbers.{CROWN, ENTRY, MAX-ENTRIES}
-use Rattle.rules.specs.Lent.{Rows, Log}
+use Rattle.rules.specs.Rules.{CROWN, ENTRY, MAX-ENTRIES, Rows, Log}
 use Rattle.parts.specs.Bounds.{InRows, Even, InLog}
 
 pub in-rows : (rs : Rows) (i : ℕ) → length (rs .crowns) ≡ length (rs .parents) * CROWN → length (rs .amounts) ≡ length (rs .parents) → i < length (rs .parents)

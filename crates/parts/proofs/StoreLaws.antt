@@ -1,8 +1,6 @@
 -- An entry's numbers, stored. Assumes nothing.
 use Rattle.kit.specs.Names.{_≡_, ℕ, _+_, _*_, set}
-use Rattle.rules.specs.declared.table.UndoLog.{UndoLog}
-use Rattle.rules.specs.Numbers.{ENTRY}
-use Rattle.rules.specs.Lent.{Log, putOld, putEntry}
+use Rattle.rules.specs.Rules.{UndoLog, ENTRY, Log, putOld, putEntry}
 use Rattle.parts.specs.declared.entries.Numbers.{Numbers}
 use Rattle.parts.specs.Numbers.{numbersOf}
 

@@ -1,9 +1,7 @@
 -- What the leaves ask of their callers: that an index lies within what is lent.
 use Rattle.kit.specs.Names.{_≡_, ℕ, _+_, _*_, _≤_, _<_, length}
-use Rattle.rules.specs.declared.table.UndoLog.{UndoLog}
+use Rattle.rules.specs.Rules.{UndoLog, CROWN, ENTRY, MAX-ENTRIES, Rows, Log}
 use Rattle.rules.specs.declared.table.UndoLog.the-variants.{NewElem, SetElem, Unknown}
-use Rattle.rules.specs.Numbers.{CROWN, ENTRY, MAX-ENTRIES}
-use Rattle.rules.specs.Lent.{Rows, Log}
 
 -- i is a row
 pub record InRows (i : ℕ) (rs : Rows) : Type 0 where

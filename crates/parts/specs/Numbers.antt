@@ -1,6 +1,5 @@
 -- The numbers that an entry is written as, as the code's own struct.
-use Rattle.rules.specs.declared.table.UndoLog.{UndoLog}
-use Rattle.rules.specs.Lent.{kindOf, keyOf, oldOf}
+use Rattle.rules.specs.Rules.{UndoLog, kindOf, keyOf, oldOf}
 use Rattle.parts.specs.declared.entries.Numbers.{Numbers}
 
 abbrev pub numbersOf : UndoLog → Numbers

@@ -1,7 +1,6 @@
 -- What carrying out a plan asks of the memory: rows within what is lent, and room in the log.
 use Rattle.kit.specs.Names.{_≡_, ℕ, _+_, _*_, _≤_, length}
-use Rattle.rules.specs.Numbers.{MAX-ENTRIES, ENTRY}
-use Rattle.rules.specs.Write.{Memory}
+use Rattle.rules.specs.Rules.{MAX-ENTRIES, ENTRY, Memory}
 use Rattle.parts.specs.Bounds.{Even}
 
 -- With a snapshot open, n more entries fit.

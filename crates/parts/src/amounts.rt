@@ -1,6 +1,6 @@
 // An amount as two words, as the log holds it.
 ghost use mathlib.Core.Path.{_≡_};
-ghost use Rattle.rules.specs.Lent.{amountOf, lowOf, highOf};
+ghost use Rattle.rules.specs.Rules.{amountOf, lowOf, highOf};
 use rules::numbers::WORD;
 
 pub fn amount_of(low: u32, high: u32) -> u64

@@ -1,7 +1,5 @@
 ghost use Rattle.kit.specs.Names.{_≡_, _+_, _≤_, length};
-ghost use Rattle.rules.specs.Numbers.{ENTRY};
-ghost use Rattle.rules.specs.Lent.{oldAt, putOld, entryAt, putEntry};
-ghost use Rattle.rules.specs.Contract.{logLent};
+ghost use Rattle.rules.specs.Rules.{ENTRY, oldAt, putOld, entryAt, putEntry, logLent};
 ghost use Rattle.parts.specs.Bounds.{InLog};
 ghost use Rattle.parts.specs.Numbers.{numbersOf};
 use rules::numbers::ENTRY;

@@ -1,8 +1,6 @@
 -- Laws of verdicts: what they write, and whether it fits the log. Assumes nothing.
 use Rattle.kit.specs.Names.{_≡_, refl, sym, Bool, true, false, List, _++_, append-nil, ℕ, _+_, length}
-use Rattle.rules.specs.declared.call.Answer.{Answer}
-use Rattle.rules.specs.Numbers.{LOG-FULL}
-use Rattle.rules.specs.Write.{Write}
+use Rattle.rules.specs.Rules.{Answer, LOG-FULL, Write}
 use Rattle.plans.specs.declared.verdict.Finish.{Finish}
 use Rattle.plans.specs.declared.verdict.Finish.the-variants.{Nothing, Crown, Unite}
 use Rattle.plans.specs.declared.verdict.Verdict.{Verdict}

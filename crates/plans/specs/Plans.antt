@@ -1,12 +1,7 @@
 -- A call's plan as the code has it, made of where its walks lead: what the rules make of the same walks.
 use Rattle.kit.specs.Names.{_≡_, Bool, false, cond, List, [], _∷_, _++_, ℕ, _+_, _-_, _<_, length, eqb, ltb}
-use Rattle.rules.specs.declared.table.Row.{Row}
-use Rattle.rules.specs.declared.table.Value.{Value}
-use Rattle.rules.specs.Numbers.{LOG-FULL}
-use Rattle.rules.specs.Lent.{Rows, value, ownerOf, rowAt}
-use Rattle.rules.specs.Answer.{refusal}
-use Rattle.rules.specs.Write.{Write, redirect, crown}
-use Rattle.rules.specs.Plan.{Plan, plan, Walked, findOn, unionedOn, joinOn, postOn, probeOn, probeKeyOn}
+use Rattle.rules.specs.Rules.{Row, Value, LOG-FULL, Rows, value, ownerOf, rowAt, refusal, Write, redirect, crown, Plan, plan, Walked, findOn, unionedOn, joinOn}
+use Rattle.rules.specs.Rules.{postOn, probeOn, probeKeyOn}
 use Rattle.roots.specs.Saves.{withParents}
 use Rattle.plans.specs.declared.verdict.Finish.{Finish}
 use Rattle.plans.specs.declared.verdict.Finish.the-variants.{Nothing, Crown, Unite}

@@ -1,14 +1,7 @@
 -- One walk: what the code makes of where it leads is what the rules make of it. Assumes nothing.
 use Rattle.kit.specs.Names.{_≡_, ap, sym, _∙_, ℕ}
-use Rattle.rules.specs.declared.call.Answer.{Answer}
-use Rattle.rules.specs.declared.table.Row.{Row}
-use Rattle.rules.specs.declared.table.Value.{Value}
-use Rattle.rules.specs.declared.table.Merged.{Merged}
+use Rattle.rules.specs.Rules.{Answer, Row, Value, Merged, DONE, OWNER-CLASH, TOO-MUCH, Rows, rowAt, valueOf, found, probed, stepped, merge}
 use Rattle.rules.specs.declared.table.Merged.the-variants.{Clash, TooMuch, Both}
-use Rattle.rules.specs.Numbers.{DONE, OWNER-CLASH, TOO-MUCH}
-use Rattle.rules.specs.Lent.{Rows, rowAt, valueOf}
-use Rattle.rules.specs.Answer.{found, probed, stepped}
-use Rattle.rules.specs.Merge.{merge}
 use Rattle.plans.specs.declared.verdict.Finish.the-variants.{Nothing, Crown}
 use Rattle.plans.specs.declared.verdict.Verdict.the-variants.{Planned}
 use Rattle.plans.specs.declared.verdict.OneCall.the-variants.{Find, Probe, ProbeKey}

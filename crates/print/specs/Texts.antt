@@ -1,9 +1,6 @@
 -- What is printed, as CALLS.md has it.
 use Rattle.kit.specs.Names.{List, [], _∷_, _++_, ℕ}
-use Rattle.rules.specs.Answer.{answerNumbers}
-use Rattle.rules.specs.declared.call.Answer.{Answer}
-use Rattle.rules.specs.declared.table.Mark.{Mark}
-use Rattle.rules.specs.declared.table.State.{State}
+use Rattle.rules.specs.Rules.{answerNumbers, Answer, Mark, State}
 use Rattle.words.specs.Bytes.{bytes}
 use Rattle.digits.specs.Printed.{listed, spell}
 use Rattle.print.specs.declared.print.Cell.{Cell}

@@ -1,7 +1,6 @@
 -- Lines of CALLS.md, printed. Assumes nothing.
 use mathlib.Core.Path.{_≡_, refl}
-use Rattle.rules.specs.Answer.{found, refusal}
-use Rattle.rules.specs.Numbers.{NO-KEY}
+use Rattle.rules.specs.Rules.{found, refusal, NO-KEY}
 use Rattle.words.specs.Bytes.{bytes}
 use Rattle.print.specs.Texts.{answerText, errorText}
 use Rattle.digits.specs.Printed.{listed, spell, spellIn}

@@ -1,7 +1,5 @@
 ghost use Rattle.kit.specs.Names.{_≡_, ltb};
-ghost use Rattle.rules.specs.Numbers.{BROKEN-TABLE};
-ghost use Rattle.rules.specs.Answer.{range, said};
-ghost use Rattle.rules.specs.Tokens.{unfit};
+ghost use Rattle.rules.specs.Rules.{BROKEN-TABLE, range, said, unfit};
 ghost use Rattle.undo_log.specs.Settled.{settled, refuseHead};
 ghost use Rattle.undo_log.specs.HeadCalls.{askedOn};
 use makers::answer::range;

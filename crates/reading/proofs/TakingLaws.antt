@@ -1,6 +1,6 @@
 -- Laws of a line gathered. Assumes nothing.
 use Rattle.kit.specs.Names.{_≡_, ap, Bool, true, false, List, ℕ, _+_, _≤_, _<_, take, drop, lt-ltb, le-ltb, eq-eqb, ne-eqb}
-use Rattle.rules.specs.Numbers.{MAX-U64}
+use Rattle.rules.specs.Rules.{MAX-U64}
 use Rattle.reading.specs.declared.read.Reading.{Reading}
 use Rattle.lines.specs.Lines.{Reached, line, gathering}
 use Rattle.reading.specs.Taking.{reading, filled, endsAt, lineNumber, reaching, Took, took, taking}

@@ -1,8 +1,6 @@
 -- A line gathered from the input, part by part.
 use Rattle.kit.specs.Names.{Bool, true, false, cond, List, ℕ, _+_, take, drop, eqb, ltb}
-use Rattle.rules.specs.declared.table.State.{State}
-use Rattle.rules.specs.Lent.{fresh}
-use Rattle.rules.specs.Numbers.{MAX-U64}
+use Rattle.rules.specs.Rules.{State, fresh, MAX-U64}
 use Rattle.commands.specs.declared.command.Lengths.{Lengths}
 use Rattle.arrays.specs.Room.{nothing}
 use Rattle.reading.specs.declared.read.Reading.{Reading}

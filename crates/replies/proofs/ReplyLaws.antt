@@ -3,10 +3,8 @@ use Rattle.kit.specs.Names.{_≡_, refl, [], _∷_, ℕ, _≤_, _<_, lt-ltb, le
 use denote.Enum.Declared.{tagOf}
 use types.Run.{OneOf, miss}
 use Rattle.rules.proofs.call.Call.{the-type}
-use Rattle.rules.specs.declared.call.Answer.{Answer}
-use Rattle.rules.specs.declared.call.Call.{Call}
+use Rattle.rules.specs.Rules.{Answer, Call, Rows, Log}
 use Rattle.rules.specs.declared.call.Call.the-variants.{New, Len, Find, Unioned, Join, Post, Probe, ProbeKey, TryProbe, Snapshot, Rollback, Commit, Keys, Actions, Changes}
-use Rattle.rules.specs.Lent.{Rows, Log}
 use Rattle.words.specs.Bytes.{bytes}
 use Rattle.show.specs.Shown.{Pieces, each, sincePieces, rowPiece}
 use Rattle.replies.specs.Replies.{FEED, onward, lookPieces}

@@ -1,13 +1,7 @@
 -- The lines of the several replies, piece by piece: CALLS.md, in its order.
 use Rattle.kit.specs.Names.{cond, List, [], _∷_, _++_, ℕ, min, ltb}
-use Rattle.rules.specs.declared.call.Answer.{Answer}
-use Rattle.rules.specs.declared.call.Call.{Call}
+use Rattle.rules.specs.Rules.{Answer, Call, Head, State, Rows, Log, Table, head, MAX-OPEN, Sizes}
 use Rattle.rules.specs.declared.call.Call.the-variants.{New, Len, Find, Unioned, Join, Post, Probe, ProbeKey, TryProbe, Snapshot, Rollback, Commit, Keys, Actions, Changes}
-use Rattle.rules.specs.declared.table.Head.{Head}
-use Rattle.rules.specs.declared.table.State.{State}
-use Rattle.rules.specs.Lent.{Rows, Log, Table, head}
-use Rattle.rules.specs.Numbers.{MAX-OPEN}
-use Rattle.rules.specs.Refusal.{Sizes}
 use Rattle.words.specs.Bytes.{bytes}
 use Rattle.print.specs.Texts.{answerText, stateText}
 use Rattle.arrays.specs.Cut.{mostRows, mostEntries}

@@ -1,7 +1,6 @@
 // The lines that answer: an error, a call's answer, a row, and all that there is.
 ghost use Rattle.kit.specs.Names.{_≡_, [], _∷_, _≤_, length};
-ghost use Rattle.rules.specs.Contract.{rowsLent, logLent, tableLent};
-ghost use Rattle.rules.specs.Lent.{Log};
+ghost use Rattle.rules.specs.Rules.{rowsLent, logLent, tableLent, Log};
 ghost use Rattle.print.specs.Texts.{errorText};
 ghost use Rattle.show.specs.Pieces.{Said};
 ghost use Rattle.replies.specs.Replies.{onward, answerPieces, lookPieces, shownPieces};

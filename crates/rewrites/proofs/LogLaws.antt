@@ -1,8 +1,6 @@
 -- Laws of logging a walk's rows before they are rewritten. Assumes nothing.
 use Rattle.kit.specs.Names.{_≡_, refl, ap, sym, _∙_, List, [], _∷_, ℕ, suc, _+_, _-_, _≤_, _<_, length, getD, take, drop, length-take, drop-cons, getD-take, arith, eq-eqb}
-use Rattle.rules.specs.Numbers.{MAX-REDIRECTS}
-use Rattle.rules.specs.Lent.{Rows, Log}
-use Rattle.rules.specs.Write.{Memory, memory}
+use Rattle.rules.specs.Rules.{MAX-REDIRECTS, Rows, Log, Memory, memory}
 use Rattle.parts.specs.Bounds.{InRows, InLog}
 use Rattle.parts.proofs.BoundLaws.{even-row}
 use Rattle.roots.specs.declared.path.Trail.{Trail}

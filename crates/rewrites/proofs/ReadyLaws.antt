@@ -1,9 +1,7 @@
 -- Laws of memory that is ready for writes, and of writes one after the other. Assumes nothing.
 use Rattle.kit.specs.Names.{_≡_, refl, ap, subst⁻¹, _∙_, Bool, true, false, cond, List, [], _∷_, _++_, ℕ, suc, _+_, _-_, _≤_, _<_, length, length-set, eqb, arith, ne-eqb}
-use Rattle.rules.specs.declared.table.UndoLog.{UndoLog}
+use Rattle.rules.specs.Rules.{UndoLog, Rows, Log, rowAt, putEntry, Write, place, Memory, put, puts}
 use Rattle.rules.specs.declared.table.UndoLog.the-variants.{SetElem}
-use Rattle.rules.specs.Lent.{Rows, Log, rowAt, putEntry}
-use Rattle.rules.specs.Write.{Write, place, Memory, put, puts}
 use Rattle.rules.proofs.RowLaws.{puts-rows}
 use Rattle.parts.specs.Bounds.{InRows, Loggable}
 use Rattle.parts.proofs.BoundLaws.{even-row}

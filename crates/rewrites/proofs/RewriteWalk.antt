@@ -1,8 +1,6 @@
 -- A walk's rewrites: nothing for fewer than two steps, else the logged rows and the compressed parents. Assumes nothing.
 use Rattle.kit.specs.Names.{_≡_, refl, ap, sym, _∙_, List, [], _∷_, ℕ, _-_, _≤_, _<_, length, getD, arith}
-use Rattle.rules.specs.Numbers.{MAX-REDIRECTS}
-use Rattle.rules.specs.Walk.{path}
-use Rattle.rules.specs.Write.{Write, Memory, memory, puts}
+use Rattle.rules.specs.Rules.{MAX-REDIRECTS, path, Write, Memory, memory, puts}
 use Rattle.roots.specs.declared.path.Trail.{Trail}
 use Rattle.roots.specs.Trail.{rootOf, passedOf, compress, walkOf, Sound, Leads, Landed, landed, land}
 use Rattle.roots.specs.Saves.{withParents, saves}

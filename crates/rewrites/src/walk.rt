@@ -1,6 +1,5 @@
 ghost use Rattle.kit.specs.Names.{_≡_, _-_};
-ghost use Rattle.rules.specs.Contract.{memoryNow, memoryLent};
-ghost use Rattle.rules.specs.Write.{puts};
+ghost use Rattle.rules.specs.Rules.{memoryNow, memoryLent, puts};
 ghost use Rattle.roots.specs.Trail.{passedOf, walkOf, Sound};
 ghost use Rattle.roots.specs.Saves.{saves};
 ghost use Rattle.parts.specs.Ready.{Ready};

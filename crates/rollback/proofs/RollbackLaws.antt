@@ -1,15 +1,9 @@
 -- What a rollback is at each of its ends, and what its functions ask of their callers. Assumes nothing.
 use Rattle.kit.specs.Names.{_≡_, refl, Bool, true, false, cond, not, _||_, List, ℕ, _≤_, ltb, arith, ltb-false, not-false}
 use Rattle.rules.specs.declared.call.Call.the-variants.{Rollback}
-use Rattle.rules.specs.declared.table.Head.{Head}
-use Rattle.rules.specs.declared.table.Mark.{Mark}
+use Rattle.rules.specs.Rules.{Head, Mark, DONE, NOT-INNERMOST, BROKEN-TABLE, Rows, Log, table, entries, withHead, refusal, notInnermost, innermost, unfit, since}
+use Rattle.rules.specs.Rules.{undoable, undo, rolledBack, outcome, refused, sizesOf, bad, call, step}
 use Rattle.rules.specs.declared.table.Sought.the-variants.{Missing, Held}
-use Rattle.rules.specs.Numbers.{DONE, NOT-INNERMOST, BROKEN-TABLE}
-use Rattle.rules.specs.Lent.{Rows, Log, table, entries, withHead}
-use Rattle.rules.specs.Answer.{refusal}
-use Rattle.rules.specs.Tokens.{notInnermost, innermost, unfit, since, undoable, undo, rolledBack}
-use Rattle.rules.specs.Refusal.{outcome, refused, sizesOf, bad}
-use Rattle.rules.specs.Step.{call, step}
 use Rattle.rules.proofs.StateLaws.{Good, bad-good}
 use Rattle.parts.proofs.BoundLaws.{in-rows, in-log}
 use Rattle.undo_log.specs.Settled.{stateWith, latest}

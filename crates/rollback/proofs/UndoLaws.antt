@@ -1,10 +1,8 @@
 -- Entries that are read and undone one at a time, newest first. Assumes nothing.
 use Rattle.kit.specs.Names.{_≡_, refl, ap, sym, _∙_, Bool, true, false, _&&_, List, [], _∷_, ℕ, zero, suc, _+_, _-_, _≤_, _<_, length, length-set, eqb, ltb, arith, ℕ-discrete, eq-eqb, ne-eqb}
 use Rattle.kit.specs.Names.{eqb-true, ltb-true}
-use Rattle.rules.specs.declared.table.UndoLog.{UndoLog}
+use Rattle.rules.specs.Rules.{UndoLog, Rows, Log, entryAt, newestFirst, undoable, reversed, undo}
 use Rattle.rules.specs.declared.table.UndoLog.the-variants.{NewElem, SetElem, Unknown}
-use Rattle.rules.specs.Lent.{Rows, Log, entryAt}
-use Rattle.rules.specs.Tokens.{newestFirst, undoable, reversed, undo}
 use Rattle.parts.specs.Bounds.{InRows, Undoing}
 use Rattle.rollback.specs.Since.{Reversible, allowed, countBefore}
 

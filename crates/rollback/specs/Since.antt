@@ -1,11 +1,7 @@
 -- The entries since a snapshot: that they lie in what is lent, and what one of them means for those before it.
 use Rattle.kit.specs.Names.{Bool, false, not, _||_, List, [], _∷_, ℕ, _+_, _<_, eqb, ltb}
-use Rattle.rules.specs.declared.table.Head.{Head}
-use Rattle.rules.specs.declared.table.Mark.{Mark}
-use Rattle.rules.specs.declared.table.UndoLog.{UndoLog}
+use Rattle.rules.specs.Rules.{Head, Mark, UndoLog, Rows, Log, unfit, since, undoable}
 use Rattle.rules.specs.declared.table.UndoLog.the-variants.{NewElem, SetElem, Unknown}
-use Rattle.rules.specs.Lent.{Rows, Log}
-use Rattle.rules.specs.Tokens.{unfit, since, undoable}
 use Rattle.parts.specs.Bounds.{InLog, Undoing}
 
 -- all used entries are entries of the log

@@ -1,6 +1,5 @@
 ghost use mathlib.Core.Path.{_≡_};
-ghost use Rattle.rules.specs.Tokens.{rolledBack};
-ghost use Rattle.rules.specs.Contract.{logLent};
+ghost use Rattle.rules.specs.Rules.{rolledBack, logLent};
 ghost use Rattle.rollback.specs.Since.{Logged, broken};
 use rules::table::Head;
 use rules::table::Mark;

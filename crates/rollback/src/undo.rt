@@ -1,7 +1,6 @@
 // The entries since a snapshot, read newest first.
 ghost use Rattle.kit.specs.Names.{_≡_, _-_, _≤_};
-ghost use Rattle.rules.specs.Tokens.{newestFirst, undoable};
-ghost use Rattle.rules.specs.Contract.{logLent};
+ghost use Rattle.rules.specs.Rules.{newestFirst, undoable, logLent};
 ghost use Rattle.rollback.specs.Since.{Logged, allowed, countBefore};
 use parts::entries::entry_at;
 use rules::table::UndoLog;

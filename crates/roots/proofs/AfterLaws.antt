@@ -1,6 +1,6 @@
 -- Laws of the parents that a walk leaves off its path, and of a path's first row and root. Assumes nothing.
 use Rattle.kit.specs.Names.{_≡_, refl, ap, sym, _∙_, List, [], _∷_, ℕ, suc, _-_, _<_, length, getD, getD-set-other, arith}
-use Rattle.rules.specs.Walk.{to, path}
+use Rattle.rules.specs.Rules.{to, path}
 use Rattle.roots.specs.Trail.{compress}
 use Rattle.roots.proofs.PathLaws.{path-root}
 use Rattle.roots.proofs.WalkLaws.{path-in, path-back, path-nil}

@@ -1,7 +1,6 @@
 -- A walk of at most one redirect leads where the rules' walk leads. Assumes nothing.
 use Rattle.kit.specs.Names.{_≡_, ap, sym, _∙_, true, false, not, List, [], _∷_, ℕ, zero, suc, _≤_, _<_, getD, eqb, arith, ℕ-discrete, decLt, le-leb, lt-leb, eq-eqb, ne-eqb, eqb-true, not-false}
-use Rattle.rules.specs.Numbers.{MAX-REDIRECTS}
-use Rattle.rules.specs.Walk.{to, path}
+use Rattle.rules.specs.Rules.{MAX-REDIRECTS, to, path}
 use Rattle.roots.specs.declared.near.Near.{Near}
 use Rattle.roots.specs.Near.{near, nearOf}
 use Rattle.roots.proofs.PathLaws.{path-root, path-more}

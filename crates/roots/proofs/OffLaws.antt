@@ -1,6 +1,6 @@
 -- The rows of a path are distinct. Assumes nothing.
 use Rattle.kit.specs.Names.{_≡_, ap, sym, _∙_, List, [], _∷_, ℕ, zero, suc, _-_, _<_, length, getD, drop, length-drop, arith, ℕ-discrete}
-use Rattle.rules.specs.Walk.{to, path}
+use Rattle.rules.specs.Rules.{to, path}
 use Rattle.roots.proofs.PathLaws.{path-root}
 use Rattle.roots.proofs.WalkLaws.{path-in, path-back}
 use Rattle.roots.proofs.AfterLaws.{Off, path-cons}

@@ -1,7 +1,7 @@
 -- Laws of `path`. Assumes nothing.
 use Rattle.kit.specs.Names.{_≡_, refl, ap, List, [], _∷_, _++_, append-nil, ℕ, zero, suc, _+_, _-_, _≤_, _<_, length, getD, take, set, take-suc-set, getD-set-same, take-set-le, arith, add-one}
 use Rattle.kit.specs.Names.{lt-ltb, le-ltb, eq-eqb, ne-eqb}
-use Rattle.rules.specs.Walk.{Path, broken, to, from, path}
+use Rattle.rules.specs.Rules.{Path, broken, to, from, path}
 
 module _ (ps : List ℕ) (count key : ℕ) where
   pub path-out : (left : ℕ) → count ≤ key → path ps count left key ≡ broken

@@ -1,10 +1,7 @@
 -- What a walk's writes leave: of the rows, the parents; of the log, the old rows. Assumes nothing.
 use Rattle.kit.specs.Names.{_≡_, refl, ap, sym, _∙_, List, [], _∷_, _++_, ℕ, _+_, _-_, length, getD, set, length-append, arith}
 use Rattle.rules.specs.declared.table.UndoLog.the-variants.{SetElem}
-use Rattle.rules.specs.Lent.{Rows, rowAt}
-use Rattle.rules.specs.Walk.{to, path}
-use Rattle.rules.specs.Write.{Write, redirect, write, writes, Memory, memory, logged, put, puts}
-use Rattle.rules.specs.Plan.{rewrites}
+use Rattle.rules.specs.Rules.{Rows, rowAt, to, path, Write, redirect, write, writes, Memory, memory, logged, put, puts, rewrites}
 use Rattle.rules.proofs.RowLaws.{write-redirect}
 use Rattle.roots.specs.Trail.{compress}
 use Rattle.roots.specs.Saves.{withParents, saves}

@@ -1,9 +1,6 @@
 -- A trail that was traced is a walk that can be made. Assumes nothing.
 use Rattle.kit.specs.Names.{_≡_, sym, ap, _∙_, true, false, List, [], _∷_, ℕ, _-_, _<_, length, getD, length-take, getD-take, arith}
-use Rattle.rules.specs.Numbers.{MAX-REDIRECTS}
-use Rattle.rules.specs.Lent.{Rows}
-use Rattle.rules.specs.Walk.{broken, to, path}
-use Rattle.rules.specs.Plan.{rewrites, walkedOn}
+use Rattle.rules.specs.Rules.{MAX-REDIRECTS, Rows, broken, to, path, rewrites, walkedOn}
 use Rattle.roots.specs.declared.path.Trail.{Trail}
 use Rattle.roots.specs.Saves.{withParents}
 use Rattle.roots.specs.Trail.{rootOf, passedOf, traced, compressed, walkOf, Short, Sound, Idle}

@@ -1,6 +1,6 @@
 -- Laws of a path's ends and of a walk along it. Assumes nothing.
 use Rattle.kit.specs.Names.{_≡_, refl, ap, sym, _∙_, List, [], _∷_, ℕ, zero, suc, _-_, _≤_, _<_, length, getD, set, arith, decLt, ℕ-discrete}
-use Rattle.rules.specs.Walk.{Path, broken, to, from, path}
+use Rattle.rules.specs.Rules.{Path, broken, to, from, path}
 use Rattle.roots.specs.Trail.{Leads, Landed, landed, land, compress}
 use Rattle.roots.proofs.PathLaws.{path-out, path-root, path-spent, path-more}
 

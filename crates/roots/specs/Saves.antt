@@ -2,8 +2,7 @@
 -- a path are distinct, so the memory afterwards is that of logging and writing row by row.
 use Rattle.kit.specs.Names.{List, [], _∷_, ℕ}
 use Rattle.rules.specs.declared.table.UndoLog.the-variants.{SetElem}
-use Rattle.rules.specs.Lent.{Rows, rowAt}
-use Rattle.rules.specs.Write.{Memory, logged}
+use Rattle.rules.specs.Rules.{Rows, rowAt, Memory, logged}
 
 abbrev pub withParents : Rows → List ℕ → Rows
 withParents rs ps = record { parents = ps; crowns = rs .crowns; amounts = rs .amounts }

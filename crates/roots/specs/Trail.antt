@@ -1,9 +1,6 @@
 -- A walk as the code has it: a trail of nodes, and the parents after the walk.
 use Rattle.kit.specs.Names.{_≡_, cond, List, [], _∷_, ℕ, _≤_, _<_, length, getD, take, set}
-use Rattle.rules.specs.Numbers.{MAX-REDIRECTS}
-use Rattle.rules.specs.Walk.{Path, broken, to, path}
-use Rattle.rules.specs.Write.{Write}
-use Rattle.rules.specs.Plan.{rewrites}
+use Rattle.rules.specs.Rules.{MAX-REDIRECTS, Path, broken, to, path, Write, rewrites}
 use Rattle.roots.specs.declared.path.Trail.{Trail}
 
 abbrev pub rootOf : Trail → ℕ

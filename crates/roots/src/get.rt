@@ -1,5 +1,5 @@
 ghost use Rattle.kit.specs.Names.{_≡_, _-_, _<_};
-ghost use Rattle.rules.specs.Walk.{path};
+ghost use Rattle.rules.specs.Rules.{path};
 ghost use Rattle.roots.specs.Trail.{Leads, landed, land};
 
 // The root of `vid`, with `left` redirects at most. The rows on the way but the last then redirect to it, the nearest first.

@@ -1,7 +1,5 @@
 ghost use Rattle.kit.specs.Names.{_≡_, _+_, _*_, _≤_, length};
-ghost use Rattle.rules.specs.Numbers.{CROWN};
-ghost use Rattle.rules.specs.Lent.{rowAt, putCrown, putRow};
-ghost use Rattle.rules.specs.Contract.{rowsNow, rowsLent};
+ghost use Rattle.rules.specs.Rules.{CROWN, rowAt, putCrown, putRow, rowsNow, rowsLent};
 ghost use Rattle.parts.specs.Bounds.{InRows};
 use rules::numbers::CROWN;
 use rules::table::Owner;

@@ -2,8 +2,7 @@
 use Rattle.kit.specs.Names.{_≡_, refl, _∙_, [], _∷_, ℕ, _+_, _*_, _≤_, _<_, length, length-set, getD, set, getD-set-same, getD-set-other, arith, eq-eqb, ne-eqb}
 use Rattle.rules.specs.declared.table.Owner.the-variants.{Tenant}
 use Rattle.rules.specs.declared.table.UndoLog.the-variants.{NewElem, SetElem}
-use Rattle.rules.specs.Numbers.{ENTRY, KIND-NEW, KIND-SET}
-use Rattle.rules.specs.Lent.{Rows, Log, amountOf, lowOf, highOf, ownerOf, numberOf, value, row, rowAt, entryAt, putEntry}
+use Rattle.rules.specs.Rules.{ENTRY, KIND-NEW, KIND-SET, Rows, Log, amountOf, lowOf, highOf, ownerOf, numberOf, value, row, rowAt, entryAt, putEntry}
 use Rattle.rules.proofs.RowLaws.{number-owner, joined}
 
 -- The order of an entry's words, at the second of two.

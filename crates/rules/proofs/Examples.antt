@@ -1,17 +1,8 @@
 -- Document 01, "Examples": those marked *, 1 to 13, as one statement over a list of calls and what is expected afterwards.
 use Rattle.kit.specs.Names.{_≡_, refl, List, [], _∷_, _++_, map, ℕ, _*_, replicate}
-use Rattle.rules.specs.declared.call.Call.{Call}
+use Rattle.rules.specs.Rules.{Call, CROWN, ENTRY, Rows, Log, table, fresh, numberOf, rowAt, kindOf, keyOf, oldOf, entryAt, merge, path, writes, puts}
+use Rattle.rules.specs.Rules.{refusal, rewrites, seek, newestFirst, undoable, undo, Outcome, outcome, bad, call, step}
 use Rattle.rules.specs.declared.call.Call.the-variants.{New, Find, Join, Post, Snapshot, Rollback, Commit}
-use Rattle.rules.specs.Numbers.{CROWN, ENTRY}
-use Rattle.rules.specs.Lent.{Rows, Log, table, fresh, numberOf, rowAt, kindOf, keyOf, oldOf, entryAt}
-use Rattle.rules.specs.Merge.{merge}
-use Rattle.rules.specs.Walk.{path}
-use Rattle.rules.specs.Write.{writes, puts}
-use Rattle.rules.specs.Answer.{refusal}
-use Rattle.rules.specs.Plan.{rewrites}
-use Rattle.rules.specs.Tokens.{seek, newestFirst, undoable, undo}
-use Rattle.rules.specs.Refusal.{Outcome, outcome, bad}
-use Rattle.rules.specs.Step.{call, step}
 
 -- ---- a run from a fresh table, whose lent rows and entries hold anything at all
 

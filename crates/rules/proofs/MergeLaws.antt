@@ -1,13 +1,8 @@
 -- The laws of the merge. All else that is proved of it cites these, so that another merge changes this file alone. Assumes nothing.
 use Rattle.kit.specs.Names.{_≡_, refl, sym, ap, ap₂, _∙_, subst, Bool, true, false, cond, _≢_, _↔_, _⊎_, inl, inr, ℕ, _+_, _≤_, _<_, ltb, arith, ℕ-discrete, eq-eqb, ne-eqb, ltb-true, ltb-false}
-use Rattle.rules.specs.declared.table.Owner.{Owner}
+use Rattle.rules.specs.Rules.{Owner, Value, Merged, MAX-U64, value, summed, mergeOwned, merge}
 use Rattle.rules.specs.declared.table.Owner.the-variants.{Nobody, Tenant}
-use Rattle.rules.specs.declared.table.Value.{Value}
-use Rattle.rules.specs.declared.table.Merged.{Merged}
 use Rattle.rules.specs.declared.table.Merged.the-variants.{Clash, TooMuch, Both}
-use Rattle.rules.specs.Numbers.{MAX-U64}
-use Rattle.rules.specs.Lent.{value}
-use Rattle.rules.specs.Merge.{summed, mergeOwned, merge}
 use Rattle.rules.proofs.ReadLaws.{Real}
 
 -- ---- what a merge gives

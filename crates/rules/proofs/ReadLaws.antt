@@ -1,12 +1,8 @@
 -- What is read after a row or an entry is written: at its place what was written, elsewhere what was there. Assumes nothing.
 use Rattle.kit.specs.Names.{_≡_, refl, ap, _∙_, List, [], _∷_, _≢_, ℕ, _+_, _*_, _<_, length, length-set, getD, set, lit<, getD-set-same, getD-set-other, arith, ℕ-discrete, eq-eqb, ne-eqb}
-use Rattle.rules.specs.declared.table.Owner.{Owner}
+use Rattle.rules.specs.Rules.{Owner, Row, UndoLog, CROWN, ENTRY, Rows, Log, ownerOf, numberOf, value, row, rowAt, putCrown, putRow, lowOf, highOf, kindOf}
+use Rattle.rules.specs.Rules.{keyOf, oldOf, entryAt, putEntry, WideRows, WideLog}
 use Rattle.rules.specs.declared.table.Owner.the-variants.{Nobody, Tenant}
-use Rattle.rules.specs.declared.table.Row.{Row}
-use Rattle.rules.specs.declared.table.UndoLog.{UndoLog}
-use Rattle.rules.specs.Numbers.{CROWN, ENTRY}
-use Rattle.rules.specs.Lent.{Rows, Log, ownerOf, numberOf, value, row, rowAt, putCrown, putRow, lowOf, highOf, kindOf, keyOf, oldOf, entryAt, putEntry}
-use Rattle.rules.specs.Wide.{WideRows, WideLog}
 
 -- ---- "Owner 0, in lent numbers or in a call, means none": no owner that is read has the number 0
 

@@ -1,12 +1,8 @@
 -- Laws of rows: what a write leaves, part by part. Assumes nothing.
 use Rattle.kit.specs.Names.{_≡_, refl, List, [], _∷_, ℕ, _+_, _*_, set, getD, set-getD, set-set, set-comm, arith, ℕ-discrete, ne-eqb}
-use Rattle.rules.specs.declared.table.Row.{Row}
+use Rattle.rules.specs.Rules.{Row, Value, CROWN, Rows, amountOf, lowOf, highOf, ownerOf, numberOf, rowAt, putCrown, putRow, Memory, Write, redirect}
+use Rattle.rules.specs.Rules.{crown, place, edit, write, writes, put, puts, reversed}
 use Rattle.rules.specs.declared.table.UndoLog.the-variants.{SetElem}
-use Rattle.rules.specs.declared.table.Value.{Value}
-use Rattle.rules.specs.Numbers.{CROWN}
-use Rattle.rules.specs.Lent.{Rows, amountOf, lowOf, highOf, ownerOf, numberOf, rowAt, putCrown, putRow}
-use Rattle.rules.specs.Write.{Memory, Write, redirect, crown, place, edit, write, writes, put, puts}
-use Rattle.rules.specs.Tokens.{reversed}
 
 -- A lent number that is read as an owner is written back as it was.
 pub number-owner : (n : ℕ) → numberOf (ownerOf n) ≡ n

@@ -1,8 +1,6 @@
 -- What BAD_STATE shuts out, as facts. Assumes nothing.
 use Rattle.kit.specs.Names.{_≡_, refl, _∙_, Bool, true, false, cond, not, List, [], _∷_, ℕ, _*_, _%_, _/_, _≤_, ltb, eqb, ℕ-discrete, le-ltb, eq-eqb, ne-eqb, ltb-false, eqb-true, not-false}
-use Rattle.rules.specs.declared.table.Head.{Head}
-use Rattle.rules.specs.Numbers.{MAX-ROWS, MAX-ENTRIES, MAX-OPEN, CROWN, ENTRY}
-use Rattle.rules.specs.Refusal.{Sizes, any, differ, stray, faults, bad}
+use Rattle.rules.specs.Rules.{Head, MAX-ROWS, MAX-ENTRIES, MAX-OPEN, CROWN, ENTRY, Sizes, any, differ, stray, faults, bad}
 
 -- Every row has its parent, its crown and its amount, and the log ends with an entry; all within the limits.
 pub record Level (z : Sizes) : Type 0 where

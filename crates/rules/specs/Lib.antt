@@ -11,3 +11,4 @@ pub mod Tokens
 pub mod Refusal
 pub mod Step
 pub mod Contract
+pub mod Rules

@@ -1,17 +1,9 @@
 -- A list of calls on lent numbers is a run of the rules' step. Assumes nothing.
 use Rattle.kit.specs.Names.{_≡_, refl, sym, ap, _∙_, subst, Bool, true, false, cond, _&&_, _||_, List, [], _++_, ℕ, zero, suc, _+_, _-_, _*_, _≤_, _<_, length, drop, sets, ltb, drop-length, arith}
-use Rattle.rules.specs.declared.call.Answer.{Answer}
-use Rattle.rules.specs.declared.call.Call.{Call}
-use Rattle.rules.specs.declared.table.Head.{Head}
+use Rattle.rules.specs.Rules.{Answer, Call, Head, Sought, State, Table, table, headOf, BAD-STATE, refusal, answerNumbers, Outcome, outcome, sizesOf, stray, bad}
+use Rattle.rules.specs.Rules.{badTable, step}
 use Rattle.rules.specs.declared.call.Call.the-variants.{Rollback, Keys}
-use Rattle.rules.specs.declared.table.Sought.{Sought}
 use Rattle.rules.specs.declared.table.Sought.the-variants.{Missing}
-use Rattle.rules.specs.declared.table.State.{State}
-use Rattle.rules.specs.Lent.{Table, table, headOf}
-use Rattle.rules.specs.Numbers.{BAD-STATE}
-use Rattle.rules.specs.Answer.{refusal, answerNumbers}
-use Rattle.rules.specs.Refusal.{Outcome, outcome, sizesOf, stray, bad, badTable}
-use Rattle.rules.specs.Step.{step}
 use Rattle.bad_state.proofs.GoodLaws.{bad-after}
 use Rattle.layout.specs.State.{Sized, headIn, stateBy, headed}
 use Rattle.layout.proofs.LayoutLaws.{no-mark, commit-mark, actions-mark, changes-mark, numbers-state, headed-state, headed-length, headed-same}

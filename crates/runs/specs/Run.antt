@@ -1,9 +1,6 @@
 -- A list of calls carried out in order: the rules' step, over and over.
 use mathlib.Core.List.{List, [], _∷_}
-use Rattle.rules.specs.declared.call.Answer.{Answer}
-use Rattle.rules.specs.declared.call.Call.{Call}
-use Rattle.rules.specs.Lent.{Table}
-use Rattle.rules.specs.Step.{step}
+use Rattle.rules.specs.Rules.{Answer, Call, Table, step}
 
 -- What a list of calls leaves, and each call's answer.
 pub record Ran : Type 0 where

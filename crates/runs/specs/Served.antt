@@ -1,9 +1,7 @@
 -- All the lists that the host lends, and what calls that are carried out leave of them.
 use Rattle.kit.specs.Names.{List, ℕ, sets, now}
 use denote.Triple.Both.{Both}
-use Rattle.rules.specs.declared.call.Call.{Call}
-use Rattle.rules.specs.Lent.{Rows, Log, Table, table}
-use Rattle.rules.specs.Contract.{Slice, BothEnds, rowsNow}
+use Rattle.rules.specs.Rules.{Call, Rows, Log, Table, table, Slice, BothEnds, rowsNow}
 use Rattle.layout.specs.State.{stateOf, stateNumbers, stateSerials}
 use Rattle.coding.specs.Answers.{answersNumbers}
 use Rattle.runs.specs.Run.{run}

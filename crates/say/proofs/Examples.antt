@@ -1,7 +1,6 @@
 -- Replies as CALLS.md has them, on one table. Assumes nothing.
 use Rattle.kit.specs.Names.{_≡_, refl, List, [], _∷_, _++_, ℕ, replicate}
-use Rattle.rules.specs.Answer.{range}
-use Rattle.rules.specs.Lent.{Table, mark}
+use Rattle.rules.specs.Rules.{range, Table, mark}
 use Rattle.rules.specs.declared.call.Call.the-variants.{Actions}
 use Rattle.words.specs.Bytes.{bytes}
 use Rattle.print.specs.Texts.{answerText, cellText, cells}

@@ -1,12 +1,10 @@
 -- Laws of what a reply prints. Assumes nothing.
 use Rattle.kit.specs.Names.{_≡_, ap, List, ℕ}
-use Rattle.rules.specs.declared.table.Head.{Head}
-use Rattle.rules.specs.Lent.{Table}
+use Rattle.rules.specs.Rules.{Head, Table, Sizes}
 use Rattle.arrays.specs.declared.reply.Reply.{Reply}
 use Rattle.show.specs.Pieces.{Said}
 use Rattle.show.specs.Shown.{Pieces}
 use Rattle.say.specs.Reply.{replyPieces, saidPieces}
-use Rattle.rules.specs.Refusal.{Sizes}
 use Rattle.words.specs.Bytes.{bytes}
 use Rattle.commands.specs.declared.command.Lengths.{Lengths}
 use Rattle.arrays.specs.declared.reply.Reply.the-variants as reply

@@ -1,7 +1,6 @@
 -- The line that each reply prints.
 use Rattle.kit.specs.Names.{[], _∷_, ℕ}
-use Rattle.rules.specs.declared.table.Head.{Head}
-use Rattle.rules.specs.Lent.{Table}
+use Rattle.rules.specs.Rules.{Head, Table}
 use Rattle.words.specs.Bytes.{bytes}
 use Rattle.print.specs.Texts.{errorText}
 use Rattle.commands.specs.declared.command.Lengths.{Lengths}

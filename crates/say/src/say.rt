@@ -1,5 +1,5 @@
 ghost use Rattle.kit.specs.Names.{_≤_, length};
-ghost use Rattle.rules.specs.Contract.{tableLent};
+ghost use Rattle.rules.specs.Rules.{tableLent};
 ghost use Rattle.show.specs.Pieces.{Said};
 ghost use Rattle.say.specs.Reply.{replyPieces, saidPieces};
 use arrays::lengths::at_most;

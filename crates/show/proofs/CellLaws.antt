@@ -1,6 +1,6 @@
 -- Laws of lent numbers and their texts. Assumes nothing.
 use Rattle.kit.specs.Names.{_≡_, List, [], _∷_, ℕ, _+_, _≤_, _<_, length, getD, lt-ltb, le-ltb}
-use Rattle.rules.specs.Lent.{amountOf}
+use Rattle.rules.specs.Rules.{amountOf}
 use Rattle.print.specs.Texts.{rowText, kindText}
 use Rattle.print.specs.declared.print.Cell.{Cell}
 use Rattle.print.specs.declared.print.Cell.the-variants.{Missing, Number}

@@ -1,9 +1,6 @@
 -- Rows, entries and marks, piece by piece: CALLS.md, in its order.
 use Rattle.kit.specs.Names.{cond, List, [], _∷_, _++_, ℕ, zero, suc, _+_, _-_, _*_, length, getD, ltb}
-use Rattle.rules.specs.declared.table.State.{State}
-use Rattle.rules.specs.Lent.{Rows, Log, markAt, numberOf, amountOf}
-use Rattle.rules.specs.Numbers.{CROWN, ENTRY}
-use Rattle.rules.specs.Tokens.{viewed}
+use Rattle.rules.specs.Rules.{State, Rows, Log, markAt, numberOf, amountOf, CROWN, ENTRY, viewed}
 use Rattle.parts.specs.declared.entries.Numbers.{Numbers}
 use Rattle.extract.specs.Numbers.{lentAt}
 use Rattle.words.specs.Bytes.{bytes}

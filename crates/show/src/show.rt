@@ -1,5 +1,5 @@
 ghost use Rattle.kit.specs.Names.{_≡_, [], _∷_, _+_, _≤_, _<_, min, length};
-ghost use Rattle.rules.specs.Contract.{rowsLent, logLent};
+ghost use Rattle.rules.specs.Rules.{rowsLent, logLent};
 ghost use Rattle.print.specs.Texts.{kindText, rowText};
 ghost use Rattle.show.specs.Pieces.{Said};
 ghost use Rattle.show.specs.Shown.{each, cellAt, both, rowPiece, rowPieces, entryPieces, markPieces};

@@ -1,6 +1,6 @@
 // The entries since a snapshot, printed as they are lent: each is read through the view of the log.
 ghost use Rattle.kit.specs.Names.{_≤_, length};
-ghost use Rattle.rules.specs.Contract.{logLent};
+ghost use Rattle.rules.specs.Rules.{logLent};
 ghost use Rattle.show.specs.Pieces.{Said};
 ghost use Rattle.show.specs.Shown.{numbersPieces, sincePieces};
 use crate::show::cell;

@@ -1,11 +1,7 @@
 -- Laws of writes: an entry's, and a row's, first its entry and then its parts. Assumes nothing.
 use Rattle.kit.specs.Names.{_≡_, ap, _∙_, List, ℕ, _+_, set, eq-eqb, ne-eqb}
-use Rattle.rules.specs.declared.table.UndoLog.{UndoLog}
+use Rattle.rules.specs.Rules.{UndoLog, Row, Value, Rows, Log, rowAt, putCrown, putRow, putEntry, Memory, memory, logged, put, push, redirect, crown}
 use Rattle.rules.specs.declared.table.UndoLog.the-variants.{NewElem, SetElem}
-use Rattle.rules.specs.declared.table.Row.{Row}
-use Rattle.rules.specs.declared.table.Value.{Value}
-use Rattle.rules.specs.Lent.{Rows, Log, rowAt, putCrown, putRow, putEntry}
-use Rattle.rules.specs.Write.{Memory, memory, logged, put, push, redirect, crown}
 use Rattle.rules.proofs.RowLaws.{write-redirect, write-crown}
 
 -- nothing is logged with no snapshot open

@@ -1,10 +1,7 @@
 // Rows are written here, and logged first where a snapshot is open. Each function returns the log's used length.
 ghost use mathlib.Core.Path.{_≡_};
 ghost use Rattle.rules.specs.declared.table.UndoLog.the-variants.{SetElem};
-ghost use Rattle.rules.specs.Lent.{Rows, rowAt};
-ghost use Rattle.rules.specs.Write.{memory, logged, put, push, redirect, crown};
-ghost use Rattle.rules.specs.Tokens.{reversed};
-ghost use Rattle.rules.specs.Contract.{rowsNow, rowsLent, logLent, memoryLent};
+ghost use Rattle.rules.specs.Rules.{Rows, rowAt, memory, logged, put, push, redirect, crown, reversed, rowsNow, rowsLent, logLent, memoryLent};
 ghost use Rattle.parts.specs.Bounds.{InRows, Loggable, Undoing};
 use rules::table::Row;
 use rules::table::UndoLog;

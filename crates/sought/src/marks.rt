@@ -1,6 +1,5 @@
 ghost use Rattle.kit.specs.Names.{_≡_, _≤_};
-ghost use Rattle.rules.specs.Numbers.{MAX-OPEN};
-ghost use Rattle.rules.specs.Tokens.{seek};
+ghost use Rattle.rules.specs.Rules.{MAX-OPEN, seek};
 ghost use Rattle.undo_log.specs.Settled.{latest, markFor};
 use rules::call::Call;
 use rules::numbers::MAX_OPEN;

@@ -1,8 +1,6 @@
 -- The state that a call leaves, written out. Assumes nothing.
 use Rattle.kit.specs.Names.{_≡_, _≤_, _<_, length, set, set-out, lt-ltb, le-ltb}
-use Rattle.rules.specs.declared.table.State.{State}
-use Rattle.rules.specs.Lent.{mark}
-use Rattle.rules.specs.Answer.{answered}
+use Rattle.rules.specs.Rules.{State, mark, answered}
 use Rattle.undo_log.specs.declared.tokens.Settled.{Settled}
 use Rattle.undo_log.specs.Settled.{stateWith, stateAfter}
 

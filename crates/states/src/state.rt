@@ -1,6 +1,5 @@
 ghost use mathlib.Core.Path.{_≡_};
-ghost use Rattle.rules.specs.Lent.{headOf};
-ghost use Rattle.rules.specs.Answer.{answered};
+ghost use Rattle.rules.specs.Rules.{headOf, answered};
 ghost use Rattle.undo_log.specs.Settled.{stateAfter};
 use rules::call::Answered;
 use rules::table::Head;

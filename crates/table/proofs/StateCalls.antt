@@ -1,14 +1,6 @@
 -- A call over a head is the call over the state. Assumes nothing.
 use mathlib.Core.Path.{_≡_, ap, sym, subst, _∙_}
-use Rattle.rules.specs.declared.call.Answered.{Answered}
-use Rattle.rules.specs.declared.call.Call.{Call}
-use Rattle.rules.specs.declared.table.Head.{Head}
-use Rattle.rules.specs.declared.table.Sought.{Sought}
-use Rattle.rules.specs.declared.table.State.{State}
-use Rattle.rules.specs.Lent.{Table, headOf}
-use Rattle.rules.specs.Answer.{answered}
-use Rattle.rules.specs.Contract.{outcomeOf}
-use Rattle.rules.specs.Step.{step}
+use Rattle.rules.specs.Rules.{Answered, Call, Head, Sought, State, Table, headOf, answered, outcomeOf, step}
 use Rattle.undo_log.specs.declared.tokens.Settled.{Settled}
 use Rattle.undo_log.specs.Settled.{stateAfter, markFor}
 use Rattle.decisions.specs.Decided.{Carried}

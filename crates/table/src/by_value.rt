@@ -1,7 +1,6 @@
 // Any call over a state that is handed in and back by value: thin over `call`.
 ghost use mathlib.Core.Path.{_≡_};
-ghost use Rattle.rules.specs.Contract.{tableLent, outcomeOf};
-ghost use Rattle.rules.specs.Step.{step};
+ghost use Rattle.rules.specs.Rules.{tableLent, outcomeOf, step};
 ghost use Rattle.undo_log.specs.HeadCalls.{headCall};
 use rules::call::Answered;
 use rules::call::Call;

@@ -1,6 +1,5 @@
 ghost use Rattle.kit.specs.Names.{_≡_, false};
-ghost use Rattle.rules.specs.Refusal.{sizesOf, bad};
-ghost use Rattle.rules.specs.Contract.{rowsNow, tableLent};
+ghost use Rattle.rules.specs.Rules.{sizesOf, bad, rowsNow, tableLent};
 ghost use Rattle.undo_log.specs.HeadCalls.{headCall};
 ghost use Rattle.decisions.specs.Decided.{Carried};
 use bad_state::bad::bad_state;

@@ -1,16 +1,9 @@
 -- A call over a head and its mark is document 01's over the state. Assumes nothing.
 use Rattle.kit.specs.Names.{_≡_, refl, ap, sym, _∙_, Bool, true, false, cond, _||_, List, ℕ, _+_, _≤_, eqb, ltb, arith, lt-ltb, le-ltb}
-use Rattle.rules.specs.declared.call.Answer.{Answer}
-use Rattle.rules.specs.declared.call.Answered.{Answered}
-use Rattle.rules.specs.declared.table.Head.{Head}
-use Rattle.rules.specs.declared.table.Mark.{Mark}
-use Rattle.rules.specs.declared.table.Sought.{Sought}
+use Rattle.rules.specs.Rules.{Answer, Answered, Head, Mark, Sought, State, DONE, NOT-INNERMOST, TOO-DEEP, BROKEN-TABLE, SERIALS-SPENT, NOT-OPEN, MAX-OPEN, MAX-U64}
+use Rattle.rules.specs.Rules.{head, headOf, withHead, refusal, range, said, opened, answered, refuseState, marked, innermost, notInnermost, unfit, stranded}
+use Rattle.rules.specs.Rules.{committed, seek, snapshot, commit, asked, ask}
 use Rattle.rules.specs.declared.table.Sought.the-variants.{Missing, Held}
-use Rattle.rules.specs.declared.table.State.{State}
-use Rattle.rules.specs.Numbers.{DONE, NOT-INNERMOST, TOO-DEEP, BROKEN-TABLE, SERIALS-SPENT, NOT-OPEN, MAX-OPEN, MAX-U64}
-use Rattle.rules.specs.Lent.{head, headOf, withHead}
-use Rattle.rules.specs.Answer.{refusal, range, said, opened, answered, refuseState}
-use Rattle.rules.specs.Tokens.{marked, innermost, notInnermost, unfit, stranded, committed, seek, snapshot, commit, asked, ask}
 use Rattle.undo_log.specs.declared.tokens.HeadCall.{HeadCall}
 use Rattle.undo_log.specs.declared.tokens.HeadCall.the-variants.{Len, Snapshot, Commit, Keys, Actions, Changes}
 use Rattle.undo_log.specs.declared.tokens.Settled.{Settled}

@@ -2,15 +2,10 @@
 use Rattle.kit.specs.Names.{_≡_, refl, [], _∷_, ℕ, suc, _≤_, _<_, arith, ℕ-discrete, lt-ltb, le-ltb, eq-eqb, ne-eqb}
 use types.Run.{OneOf, miss}
 use denote.Enum.Declared.{tagOf}
-use Rattle.rules.specs.declared.call.Call.{Call}
+use Rattle.rules.specs.Rules.{Call, Mark, State, MAX-OPEN, markAt, seek}
 use Rattle.rules.proofs.call.Call.{the-type}
 use Rattle.rules.specs.declared.call.Call.the-variants.{New, Len, Find, Unioned, Join, Post, Probe, ProbeKey, TryProbe, Snapshot, Rollback, Commit, Keys, Actions, Changes}
-use Rattle.rules.specs.declared.table.Mark.{Mark}
 use Rattle.rules.specs.declared.table.Sought.the-variants.{Missing, Held}
-use Rattle.rules.specs.declared.table.State.{State}
-use Rattle.rules.specs.Numbers.{MAX-OPEN}
-use Rattle.rules.specs.Lent.{markAt}
-use Rattle.rules.specs.Tokens.{seek}
 use Rattle.undo_log.specs.Settled.{latest, markOf, markFor}
 
 module _ (s : State) (token left : ℕ) where

@@ -1,18 +1,9 @@
 -- The calls that neither read nor write rows and entries: over a state, as document 01 has them, and over a head.
 use Rattle.kit.specs.Names.{_||_, ℕ, _+_, eqb, ltb}
-use Rattle.rules.specs.declared.call.Answer.{Answer}
-use Rattle.rules.specs.declared.call.Answered.{Answered}
-use Rattle.rules.specs.declared.call.Call.{Call}
+use Rattle.rules.specs.Rules.{Answer, Answered, Call, Head, Mark, Sought, State, DONE, NOT-INNERMOST, TOO-DEEP, BROKEN-TABLE, SERIALS-SPENT, NOT-OPEN, MAX-OPEN}
+use Rattle.rules.specs.Rules.{MAX-U64, head, refusal, said, range, opened, unfit, stranded, committed, len, snapshot, commit, keysSince, actionsSince, hasChanges}
 use Rattle.rules.specs.declared.call.Call.the-variants as call
-use Rattle.rules.specs.declared.table.Head.{Head}
-use Rattle.rules.specs.declared.table.Mark.{Mark}
-use Rattle.rules.specs.declared.table.Sought.{Sought}
 use Rattle.rules.specs.declared.table.Sought.the-variants.{Missing, Held}
-use Rattle.rules.specs.declared.table.State.{State}
-use Rattle.rules.specs.Numbers.{DONE, NOT-INNERMOST, TOO-DEEP, BROKEN-TABLE, SERIALS-SPENT, NOT-OPEN, MAX-OPEN, MAX-U64}
-use Rattle.rules.specs.Lent.{head}
-use Rattle.rules.specs.Answer.{refusal, said, range, opened}
-use Rattle.rules.specs.Tokens.{unfit, stranded, committed, len, snapshot, commit, keysSince, actionsSince, hasChanges}
 use Rattle.undo_log.specs.declared.tokens.HeadCall.{HeadCall}
 use Rattle.undo_log.specs.declared.tokens.HeadCall.the-variants.{Len, Snapshot, Commit, Keys, Actions, Changes}
 use Rattle.undo_log.specs.declared.tokens.Settled.{Settled}

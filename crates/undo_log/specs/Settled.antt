@@ -1,17 +1,8 @@
 -- A call over a head and the mark in question: which mark that is, what the call leaves, and the state that this makes.
 use Rattle.kit.specs.Names.{Bool, cond, List, ℕ, set, ltb}
-use Rattle.rules.specs.declared.call.Answer.{Answer}
-use Rattle.rules.specs.declared.call.Call.{Call}
+use Rattle.rules.specs.Rules.{Answer, Call, Head, Mark, Sought, State, MAX-OPEN, mark, refusal, innermost, notInnermost, seek}
 use Rattle.rules.specs.declared.call.Call.the-variants.{New, Len, Find, Unioned, Join, Post, Probe, ProbeKey, TryProbe, Snapshot, Rollback, Commit, Keys, Actions, Changes}
-use Rattle.rules.specs.declared.table.Head.{Head}
-use Rattle.rules.specs.declared.table.Mark.{Mark}
-use Rattle.rules.specs.declared.table.Sought.{Sought}
 use Rattle.rules.specs.declared.table.Sought.the-variants.{Missing, Held}
-use Rattle.rules.specs.declared.table.State.{State}
-use Rattle.rules.specs.Numbers.{MAX-OPEN}
-use Rattle.rules.specs.Lent.{mark}
-use Rattle.rules.specs.Answer.{refusal}
-use Rattle.rules.specs.Tokens.{innermost, notInnermost, seek}
 use Rattle.undo_log.specs.declared.tokens.Settled.{Settled}
 
 abbrev pub settled : Answer → Head → Settled

@@ -1,5 +1,5 @@
 ghost use mathlib.Core.Path.{_≡_};
-ghost use Rattle.rules.specs.Tokens.{unfit};
+ghost use Rattle.rules.specs.Rules.{unfit};
 use rules::table::Head;
 use rules::table::Mark;
 

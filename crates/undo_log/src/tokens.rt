@@ -1,8 +1,6 @@
 // len, snapshot and commit over a head, the last serial and the mark in question.
 ghost use Rattle.kit.specs.Names.{_≡_, _-_, _≤_};
-ghost use Rattle.rules.specs.Numbers.{MAX-OPEN};
-ghost use Rattle.rules.specs.Answer.{refusal, range};
-ghost use Rattle.rules.specs.Tokens.{stranded, committed};
+ghost use Rattle.rules.specs.Rules.{MAX-OPEN, refusal, range, stranded, committed};
 ghost use Rattle.undo_log.specs.Settled.{settled};
 ghost use Rattle.undo_log.specs.HeadCalls.{snapshotOn, commitOn};
 use crate::marks::unfit;

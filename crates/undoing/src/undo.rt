@@ -1,7 +1,6 @@
 // The entries since a snapshot, undone newest first.
 ghost use Rattle.kit.specs.Names.{_≡_, _-_, _≤_};
-ghost use Rattle.rules.specs.Tokens.{newestFirst, undo};
-ghost use Rattle.rules.specs.Contract.{rowsNow, rowsLent, logLent};
+ghost use Rattle.rules.specs.Rules.{newestFirst, undo, rowsNow, rowsLent, logLent};
 ghost use Rattle.rollback.specs.Since.{Logged, Reversible};
 use parts::entries::entry_at;
 use snapshot_vec::update::reverse;

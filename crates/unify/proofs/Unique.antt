@@ -1,13 +1,7 @@
 -- No two outcomes meet a call's contract: the answer, the state handed back and every lent list at exit are fixed by the table at
 -- entry. One statement for all calls, since each has the same equation. Assumes nothing.
 use mathlib.Core.Path.{_≡_, sym, ap, _∙_}
-use Rattle.rules.specs.declared.call.Answer.{Answer}
-use Rattle.rules.specs.declared.call.Answered.{Answered}
-use Rattle.rules.specs.declared.call.Call.{Call}
-use Rattle.rules.specs.Lent.{Rows, Log, Table, table}
-use Rattle.rules.specs.Refusal.{Outcome}
-use Rattle.rules.specs.Contract.{outcomeOf}
-use Rattle.rules.specs.Step.{step}
+use Rattle.rules.specs.Rules.{Answer, Answered, Call, Rows, Log, Table, table, Outcome, outcomeOf, step}
 
 pub record Same (r r′ : Answered) (rs rs′ : Rows) (l l′ : Log) : Type 0 where
   pub answers : r .answer ≡ r′ .answer

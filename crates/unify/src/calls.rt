@@ -1,8 +1,7 @@
 // The table's calls in document 01's form: the state handed in and back by value, under ena's names.
 ghost use mathlib.Core.Path.{_≡_};
 ghost use Rattle.rules.specs.declared.call.Call.the-variants.{New, Len, Find, Unioned, Join, Post, Probe, ProbeKey, TryProbe, Snapshot, Rollback, Commit, Keys, Actions, Changes};
-ghost use Rattle.rules.specs.Contract.{tableLent, outcomeOf};
-ghost use Rattle.rules.specs.Step.{step};
+ghost use Rattle.rules.specs.Rules.{tableLent, outcomeOf, step};
 use rules::call::Answered;
 use rules::call::Call;
 use rules::table::State;

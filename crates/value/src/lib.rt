@@ -1,6 +1,5 @@
 ghost use Rattle.kit.specs.Names.{_≡_, _+_};
-ghost use Rattle.rules.specs.Lent.{valueOf};
-ghost use Rattle.rules.specs.Merge.{summed, merge};
+ghost use Rattle.rules.specs.Rules.{valueOf, summed, merge};
 use rules::numbers::MAX_U64;
 use rules::table::Merged;
 use rules::table::Owner;

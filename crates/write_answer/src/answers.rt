@@ -1,5 +1,5 @@
 ghost use Rattle.kit.specs.Names.{_≡_, _+_, _≤_, length, sets};
-ghost use Rattle.rules.specs.Answer.{answerNumbers};
+ghost use Rattle.rules.specs.Rules.{answerNumbers};
 use makers::answer::ANSWER;
 use makers::answer::answer_numbers;
 use rules::call::Answer;

@@ -1,12 +1,6 @@
 -- What is written is used of the log. Assumes nothing.
 use Rattle.kit.specs.Names.{_≡_, ap, _∙_, ℕ}
-use Rattle.rules.specs.declared.call.Call.{Call}
-use Rattle.rules.specs.declared.table.Head.{Head}
-use Rattle.rules.specs.declared.table.Row.{Row}
-use Rattle.rules.specs.declared.table.Sought.{Sought}
-use Rattle.rules.specs.declared.table.Value.{Value}
-use Rattle.rules.specs.Lent.{Rows, Log, table, row, head}
-use Rattle.rules.specs.Write.{Memory, push, puts}
+use Rattle.rules.specs.Rules.{Call, Head, Row, Sought, Value, Rows, Log, table, row, head, Memory, push, puts}
 use Rattle.undo_log.specs.declared.tokens.Settled.{Settled}
 use Rattle.undo_log.specs.Settled.{settled, stateWith}
 use Rattle.plans.specs.declared.verdict.Finish.{Finish}

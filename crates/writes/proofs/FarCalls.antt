@@ -1,13 +1,6 @@
 -- A long walk's plan carried out is the rules' step. Assumes nothing.
 use Rattle.kit.specs.Names.{_≡_, ap, sym, _∙_, _++_, ℕ, arith}
-use Rattle.rules.specs.declared.call.Answer.{Answer}
-use Rattle.rules.specs.declared.call.Call.{Call}
-use Rattle.rules.specs.declared.table.Head.{Head}
-use Rattle.rules.specs.declared.table.State.{State}
-use Rattle.rules.specs.Lent.{Rows, Log, table, head}
-use Rattle.rules.specs.Answer.{refusal}
-use Rattle.rules.specs.Write.{Memory, memory, withMemory, puts}
-use Rattle.rules.specs.Refusal.{outcome}
+use Rattle.rules.specs.Rules.{Answer, Call, Head, State, Rows, Log, table, head, refusal, Memory, memory, withMemory, puts, outcome}
 use Rattle.undo_log.specs.declared.tokens.Settled.{Settled}
 use Rattle.undo_log.specs.Settled.{settled, stateWith}
 use Rattle.undo_log.proofs.HeadLaws.{after-moved, after-kept}

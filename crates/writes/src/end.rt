@@ -1,5 +1,5 @@
 ghost use mathlib.Core.Path.{_≡_};
-ghost use Rattle.rules.specs.Contract.{rowsNow, rowsLent, logLent};
+ghost use Rattle.rules.specs.Rules.{rowsNow, rowsLent, logLent};
 ghost use Rattle.decisions.specs.End.{endedWith, endBy, Endable};
 use decisions::todo::End;
 use decisions::todo::Todo;

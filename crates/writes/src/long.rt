@@ -1,6 +1,5 @@
 ghost use Rattle.kit.specs.Names.{_≡_, false};
-ghost use Rattle.rules.specs.Contract.{rowsNow, tableLent};
-ghost use Rattle.rules.specs.Refusal.{sizesOf, bad};
+ghost use Rattle.rules.specs.Rules.{rowsNow, tableLent, sizesOf, bad};
 ghost use Rattle.decisions.specs.Sorted.{walkCall, LiveKeys};
 ghost use Rattle.decisions.specs.Decided.{FarCarried};
 use decisions::sorted::WalkCall;

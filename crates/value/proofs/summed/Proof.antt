@@ -1,6 +1,6 @@
 -- `value::summed` meets its contract. Assumes nothing.
 use Rattle.kit.specs.Names.{_+_, arith, lt-ltb, le-ltb, needs}
-use Rattle.rules.specs.Numbers.{MAX-U64}
+use Rattle.rules.specs.Rules.{MAX-U64}
 use Rattle.value.proofs.summed.Statement.{statement}
 use Rattle.value.proofs.summed.Tie as tie
 

@@ -1,6 +1,6 @@
 -- `value::unify_values` meets its contract, owner by owner. Assumes nothing.
 use Rattle.kit.specs.Names.{eq-eqb, ne-eqb, needs}
-use Rattle.rules.specs.Merge.{merge}
+use Rattle.rules.specs.Rules.{merge}
 use Rattle.value.proofs.unify_values.Statement.{statement}
 use Rattle.value.proofs.unify_values.Tie as tie
 

@@ -1,6 +1,6 @@
 -- `view::action_at` meets its contract: what the entry's numbers say. Assumes nothing.
 use Rattle.kit.specs.Names.{_∙_, ap, needs}
-use Rattle.rules.specs.declared.table.UndoLog.{UndoLog}
+use Rattle.rules.specs.Rules.{UndoLog}
 use Rattle.extract.specs.Numbers.{actionOf}
 use Rattle.actions.proofs.view.action_at.Statement.{statement}
 use Rattle.actions.proofs.view.action_at.Tie as tie

@@ -25,7 +25,7 @@ use denote.Struct.Rest.{own-shut}
 use denote.Triple.Entry.{Vals, alive, onEntry}
 use denote.Triple.Statement.{Triple}
 use denote.Triple.Table.{cited}
-use Rattle.rules.specs.Tokens.{viewed}
+use Rattle.rules.specs.Rules.{viewed}
 use Rattle.actions.specs.View.{shown}
 use Rattle.actions.specs.declared.view.Actions.{Actions}
 use Rattle.actions.proofs.Shapes.{B, D, L, Sl, v, Own}

@@ -2,7 +2,7 @@
 use contract.Running.{givenOf}
 use denote.Enum.Laws as EL
 use denote.Triple.Table.{cited}
-use Rattle.rules.specs.Lent.{entryAt}
+use Rattle.rules.specs.Rules.{entryAt}
 use Rattle.rules.proofs.table.UndoLog as S
 use Rattle.rules.proofs.table.UndoLog.Laws as S′
 use Rattle.actions.proofs.Walking.{Cited}

@@ -20,7 +20,7 @@ use denote.Builtin.{usize}
 use denote.Steps.{owned}
 use denote.Struct.Laws as LL
 use denote.Triple.Entry.{Vals, alive, onEntry}
-use Rattle.rules.specs.Lent.{entries}
+use Rattle.rules.specs.Rules.{entries}
 use Rattle.actions.specs.View.{shown, countOf}
 use Rattle.actions.specs.declared.view.Actions.{Actions}
 use Rattle.actions.proofs.Shapes.{B, D, L}

@@ -23,7 +23,7 @@ use denote.Struct.Laws as LL
 use denote.Triple.Entry.{Vals, alive, onEntry}
 use denote.Triple.Statement.{Triple}
 use denote.Triple.Table.{cited}
-use Rattle.rules.specs.Tokens.{viewed}
+use Rattle.rules.specs.Rules.{viewed}
 use Rattle.parts.specs.declared.entries.Numbers.{Numbers}
 use Rattle.parts.proofs.entries.Numbers as S
 use Rattle.parts.proofs.entries.Numbers.Laws as S′

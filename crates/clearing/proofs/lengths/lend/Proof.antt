@@ -1,7 +1,5 @@
 use Rattle.kit.specs.Names.{_∙_, not-true, not-false}
-use Rattle.rules.specs.declared.table.State.{State}
-use Rattle.rules.specs.Contract.{tableNow}
-use Rattle.rules.specs.Lent.{Table, table}
+use Rattle.rules.specs.Rules.{State, tableNow, Table, table}
 use Rattle.damage.proofs.CommandLaws.{no-room, all-cleared}
 use Rattle.clearing.proofs.lengths.lend.Statement.{statement}
 use Rattle.clearing.proofs.lengths.lend.Tie as tie

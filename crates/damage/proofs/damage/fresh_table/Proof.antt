@@ -1,5 +1,5 @@
 use Rattle.kit.specs.Names.{arith, needs}
-use Rattle.rules.specs.Lent.{table}
+use Rattle.rules.specs.Rules.{table}
 use Rattle.damage.proofs.CommandLaws.{too-many-rows, too-many-entries, a-fresh-table}
 use Rattle.damage.proofs.damage.fresh_table.Statement.{statement}
 use Rattle.damage.proofs.damage.fresh_table.Tie as tie

@@ -1,5 +1,5 @@
 use Rattle.kit.specs.Names.{_∙_, needs}
-use Rattle.rules.specs.Lent.{table}
+use Rattle.rules.specs.Rules.{table}
 use Rattle.damage.proofs.CommandLaws.{entry-set}
 use Rattle.damage.proofs.damage.set_entry.Statement.{statement}
 use Rattle.damage.proofs.damage.set_entry.Tie as tie

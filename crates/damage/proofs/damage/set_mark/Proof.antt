@@ -1,5 +1,5 @@
 use Rattle.kit.specs.Names.{_∙_, arith, needs}
-use Rattle.rules.specs.Lent.{table}
+use Rattle.rules.specs.Rules.{table}
 use Rattle.damage.proofs.CommandLaws.{no-mark, mark-set}
 use Rattle.damage.proofs.damage.set_mark.Statement.{statement}
 use Rattle.damage.proofs.damage.set_mark.Tie as tie

@@ -1,6 +1,5 @@
 use Rattle.kit.specs.Names.{_∙_, needs}
-use Rattle.rules.specs.Contract.{rowsNow}
-use Rattle.rules.specs.Lent.{table}
+use Rattle.rules.specs.Rules.{rowsNow, table}
 use Rattle.damage.proofs.CommandLaws.{row-set}
 use Rattle.damage.proofs.damage.set_row.Statement.{statement}
 use Rattle.damage.proofs.damage.set_row.Tie as tie

@@ -1,4 +1,4 @@
-use Rattle.rules.specs.Lent.{table}
+use Rattle.rules.specs.Rules.{table}
 use Rattle.damage.specs.Commands.{changed}
 use Rattle.damage.proofs.damage.set_state.Statement.{statement}
 use Rattle.damage.proofs.damage.set_state.Tie as tie

@@ -1,6 +1,5 @@
 use Rattle.kit.specs.Names.{now, needs}
-use Rattle.rules.specs.Lent.{Rows, Log}
-use Rattle.rules.specs.Contract.{rowsNow}
+use Rattle.rules.specs.Rules.{Rows, Log, rowsNow}
 use Rattle.decisions.proofs.FitLaws.{good}
 use Rattle.decisions.proofs.DoesLaws.{rest-does}
 use Rattle.decide.proofs.any.decide.Statement.{statement}

@@ -1,6 +1,5 @@
 use Rattle.kit.specs.Names.{sym, _∙_, now, arith, needs}
-use Rattle.rules.specs.Lent.{Rows, Log}
-use Rattle.rules.specs.Contract.{rowsNow}
+use Rattle.rules.specs.Rules.{Rows, Log, rowsNow}
 use Rattle.decisions.proofs.FitLaws.{good-used, good}
 use Rattle.direct.proofs.DirectLaws.{new-keys-full, new-log-full, new-done}
 use Rattle.direct.proofs.calls.new_key.Statement.{statement}

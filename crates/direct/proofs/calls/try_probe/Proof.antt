@@ -1,6 +1,5 @@
 use Rattle.kit.specs.Names.{now, needs}
-use Rattle.rules.specs.Lent.{Rows, Log}
-use Rattle.rules.specs.Contract.{rowsNow}
+use Rattle.rules.specs.Rules.{Rows, Log, rowsNow}
 use Rattle.parts.proofs.BoundLaws.{even-row}
 use Rattle.decisions.proofs.FitLaws.{good-even}
 use Rattle.direct.proofs.DirectLaws.{try-no-key, try-nothing, try-value}

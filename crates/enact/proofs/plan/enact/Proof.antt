@@ -1,6 +1,5 @@
 use Rattle.kit.specs.Names.{_∙_, _+_, length, now, arith}
-use Rattle.rules.specs.Write.{Memory, memory}
-use Rattle.rules.specs.Contract.{memoryNow}
+use Rattle.rules.specs.Rules.{Memory, memory, memoryNow}
 use Rattle.roots.specs.Trail.{walkOf}
 use Rattle.roots.proofs.TrailLaws.{walk-length}
 use Rattle.plans.specs.Plans.{finishOf}

@@ -1,6 +1,5 @@
 use Rattle.kit.specs.Names.{subst, length, now, arith, needs}
-use Rattle.rules.specs.Write.{Memory, memory, crown}
-use Rattle.rules.specs.Contract.{memoryNow}
+use Rattle.rules.specs.Rules.{Memory, memory, crown, memoryNow}
 use Rattle.plans.specs.declared.verdict.Finish.{Finish}
 use Rattle.plans.specs.Plans.{finishOf, InsideEnd}
 use Rattle.parts.specs.Ready.{Ready}

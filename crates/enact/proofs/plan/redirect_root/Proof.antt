@@ -1,6 +1,5 @@
 use Rattle.kit.specs.Names.{_∙_, now, arith}
-use Rattle.rules.specs.Write.{Memory, memory, redirect, crown}
-use Rattle.rules.specs.Contract.{memoryNow}
+use Rattle.rules.specs.Rules.{Memory, memory, redirect, crown, memoryNow}
 use Rattle.parts.specs.Ready.{Ready}
 use Rattle.rewrites.proofs.ReadyLaws.{ready-row, ready-entry, ready-put, put-two}
 use Rattle.enact.proofs.plan.redirect_root.Statement.{statement}

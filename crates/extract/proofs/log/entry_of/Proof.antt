@@ -1,6 +1,6 @@
 -- `log::entry_of` meets its contract: what the entry's numbers say. Assumes nothing.
 use Rattle.kit.specs.Names.{_∙_, ap, needs}
-use Rattle.rules.specs.declared.table.UndoLog.{UndoLog}
+use Rattle.rules.specs.Rules.{UndoLog}
 use Rattle.extract.specs.Numbers.{actionOf}
 use Rattle.extract.proofs.log.entry_of.Statement.{statement}
 use Rattle.extract.proofs.log.entry_of.Tie as tie

@@ -1,6 +1,6 @@
 -- `log::part` meets its contract, end by end. Assumes nothing.
 use Rattle.kit.specs.Names.{_*_, now, needs}
-use Rattle.rules.specs.Numbers.{ENTRY}
+use Rattle.rules.specs.Rules.{ENTRY}
 use Rattle.extract.proofs.PartLaws.{part-none, part-past, part-rest}
 use Rattle.extract.proofs.log.part.Statement.{statement}
 use Rattle.extract.proofs.log.part.Tie as tie

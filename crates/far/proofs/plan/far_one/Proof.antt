@@ -1,6 +1,5 @@
 use Rattle.kit.specs.Names.{now, arith, not-true, not-false, needs}
-use Rattle.rules.specs.Lent.{Rows, Log}
-use Rattle.rules.specs.Contract.{rowsNow}
+use Rattle.rules.specs.Rules.{Rows, Log, rowsNow}
 use Rattle.parts.proofs.BoundLaws.{even-row}
 use Rattle.roots.specs.Trail.{rootOf}
 use Rattle.roots.proofs.TrailLaws.{trail-root}

@@ -1,6 +1,5 @@
 use Rattle.kit.specs.Names.{_≡_, ap₂, sym, _∙_, needs}
-use Rattle.rules.specs.Lent.{valueOf}
-use Rattle.rules.specs.Merge.{merge}
+use Rattle.rules.specs.Rules.{valueOf, merge}
 use Rattle.join.proofs.TwoLaws.{high-a, high-b, join-clash, join-over, join-both}
 use Rattle.join.proofs.plan.join_roots.Statement.{statement}
 use Rattle.join.proofs.plan.join_roots.Tie as tie

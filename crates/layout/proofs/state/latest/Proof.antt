@@ -1,5 +1,5 @@
 use Rattle.kit.specs.Names.{eq-eqb, needs}
-use Rattle.rules.specs.declared.table.State.{State}
+use Rattle.rules.specs.Rules.{State}
 use Rattle.layout.specs.State.{stateBy}
 use Rattle.layout.proofs.LayoutLaws.{is-latest, not-latest}
 use Rattle.layout.proofs.state.latest.Statement.{statement}

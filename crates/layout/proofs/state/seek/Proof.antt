@@ -1,8 +1,6 @@
 -- The marks from `left` on are none of the token's. The loop doesn't see the head, so that is said of any.
 use Rattle.kit.specs.Names.{_≡_, refl, ap, sym, _∙_, _≤_, arith, needs}
-use Rattle.rules.specs.declared.table.Head.{Head}
-use Rattle.rules.specs.declared.table.State.{State}
-use Rattle.rules.specs.Tokens.{seek}
+use Rattle.rules.specs.Rules.{Head, State, seek}
 use Rattle.layout.specs.State.{stateBy}
 use Rattle.layout.proofs.LayoutLaws.{found-there, not-there}
 use Rattle.layout.proofs.state.seek.Statement.{statement}

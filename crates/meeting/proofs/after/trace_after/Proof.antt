@@ -1,6 +1,6 @@
 use Rattle.kit.specs.Names.{_≡_, ap, _∙_, ⊎-elim, ℕ, _+_, _-_, _≤_, _<_, length, getD, take, set, length-set, arith, needs}
 use borrow.Author.Count.{below-more}
-use Rattle.rules.specs.Walk.{path}
+use Rattle.rules.specs.Rules.{path}
 use Rattle.roots.specs.Trail.{compress}
 use Rattle.roots.proofs.PathLaws.{along}
 use Rattle.meeting.proofs.MeetingLaws.{after-out, after-root, after-spent, after-more, on-spent, on-more}

@@ -1,6 +1,5 @@
 use Rattle.kit.specs.Names.{_∙_, needs}
-use Rattle.rules.specs.Contract.{tableNow}
-use Rattle.rules.specs.Lent.{Table}
+use Rattle.rules.specs.Rules.{tableNow, Table}
 use Rattle.damage.specs.Commands.{changed}
 use Rattle.damage.proofs.CommandLaws.{told}
 use Rattle.others.proofs.OtherLaws.{no-call}

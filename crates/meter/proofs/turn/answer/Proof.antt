@@ -1,4 +1,4 @@
-use Rattle.rules.specs.Contract.{tableNow}
+use Rattle.rules.specs.Rules.{tableNow}
 use Rattle.meter.proofs.TurnLaws.{answered}
 use Rattle.meter.proofs.turn.answer.Statement.{statement}
 use Rattle.meter.proofs.turn.answer.Tie as tie

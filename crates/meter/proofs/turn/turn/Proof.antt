@@ -1,7 +1,5 @@
 use borrow.Author.Tests.{not-true, not-false}
-use Rattle.rules.specs.declared.table.State.{State}
-use Rattle.rules.specs.Contract.{tableNow}
-use Rattle.rules.specs.Lent.{Table, table}
+use Rattle.rules.specs.Rules.{State, tableNow, Table, table}
 use Rattle.meter.proofs.TurnLaws.{no-end, an-end}
 use Rattle.meter.proofs.turn.turn.Statement.{statement}
 use Rattle.meter.proofs.turn.turn.Tie as tie

@@ -1,6 +1,5 @@
 use Rattle.kit.specs.Names.{refl, now, arith, needs}
-use Rattle.rules.specs.Lent.{Rows, Log}
-use Rattle.rules.specs.Contract.{rowsNow}
+use Rattle.rules.specs.Rules.{Rows, Log, rowsNow}
 use Rattle.parts.proofs.BoundLaws.{even-row}
 use Rattle.roots.proofs.NearLaws.{Found, not-lost}
 use Rattle.decisions.proofs.FitLaws.{good-used, good-even}

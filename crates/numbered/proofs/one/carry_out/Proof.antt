@@ -1,7 +1,5 @@
 use Rattle.kit.specs.Names.{getD, drop, needs}
-use Rattle.rules.specs.declared.table.State.{State}
-use Rattle.rules.specs.Lent.{Table, table}
-use Rattle.rules.specs.Contract.{tableNow}
+use Rattle.rules.specs.Rules.{State, Table, table, tableNow}
 use Rattle.layout.specs.State.{marksOf, stateBy}
 use Rattle.numbered.proofs.OneLaws.{one-done}
 use Rattle.numbered.proofs.one.carry_out.Statement.{statement}

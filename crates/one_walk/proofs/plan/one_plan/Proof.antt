@@ -1,5 +1,4 @@
-use Rattle.rules.specs.Lent.{Rows}
-use Rattle.rules.specs.Contract.{rowsNow}
+use Rattle.rules.specs.Rules.{Rows, rowsNow}
 use Rattle.post.proofs.OneLaws.{find-is, probe-is, probe-key-is}
 use borrow.Author.Needs.{needs}
 use Rattle.one_walk.proofs.plan.one_plan.Statement.{statement}

@@ -1,5 +1,5 @@
 use Rattle.kit.specs.Names.{_∙_, needs}
-use Rattle.rules.specs.Lent.{table}
+use Rattle.rules.specs.Rules.{table}
 use Rattle.damage.specs.Commands.{changed}
 use Rattle.others.proofs.OtherLaws.{lending-told, none-lent}
 use Rattle.others.proofs.other.lending_of.Statement.{statement}

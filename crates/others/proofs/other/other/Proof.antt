@@ -1,6 +1,5 @@
 use Rattle.kit.specs.Names.{_∙_, needs}
-use Rattle.rules.specs.Contract.{rowsNow, tableNow}
-use Rattle.rules.specs.Lent.{Rows, Table}
+use Rattle.rules.specs.Rules.{rowsNow, tableNow, Rows, Table}
 use Rattle.others.proofs.OtherLaws.{lending-is, otherwise-told}
 use Rattle.others.proofs.other.other.Statement.{statement}
 use Rattle.others.proofs.other.other.Tie as tie

@@ -1,5 +1,5 @@
 use Rattle.kit.specs.Names.{eq-eqb, ne-eqb, needs}
-use Rattle.rules.specs.Numbers.{KIND-NEW, KIND-SET}
+use Rattle.rules.specs.Rules.{KIND-NEW, KIND-SET}
 use Rattle.parts.proofs.entries.entry_at.Statement.{statement}
 use Rattle.parts.proofs.entries.entry_at.Tie as tie
 

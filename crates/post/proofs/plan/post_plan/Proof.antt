@@ -1,7 +1,5 @@
 use Rattle.kit.specs.Names.{_≡_, ap, sym, _∙_, needs}
-use Rattle.rules.specs.declared.table.Value.{Value}
-use Rattle.rules.specs.Lent.{valueOf}
-use Rattle.rules.specs.Merge.{merge}
+use Rattle.rules.specs.Rules.{Value, valueOf, merge}
 use Rattle.post.proofs.OneLaws.{post-clash, post-over, post-both}
 use Rattle.post.proofs.plan.post_plan.Statement.{statement}
 use Rattle.post.proofs.plan.post_plan.Tie as tie

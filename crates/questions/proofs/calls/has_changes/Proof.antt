@@ -1,6 +1,6 @@
 -- `calls::has_changes` meets its contract. Assumes nothing.
 use Rattle.kit.specs.Names.{ltb, needs}
-use Rattle.rules.specs.Answer.{said}
+use Rattle.rules.specs.Rules.{said}
 use Rattle.undo_log.proofs.HeadLaws.{asked-fit}
 use Rattle.questions.proofs.calls.has_changes.Statement.{statement}
 use Rattle.questions.proofs.calls.has_changes.Tie as tie

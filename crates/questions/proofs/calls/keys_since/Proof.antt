@@ -1,6 +1,6 @@
 -- `calls::keys_since` meets its contract. Assumes nothing.
 use borrow.Author.Needs.{needs}
-use Rattle.rules.specs.Answer.{range}
+use Rattle.rules.specs.Rules.{range}
 use Rattle.undo_log.proofs.HeadLaws.{asked-fit}
 use Rattle.questions.proofs.calls.keys_since.Statement.{statement}
 use Rattle.questions.proofs.calls.keys_since.Tie as tie

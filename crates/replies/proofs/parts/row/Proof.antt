@@ -1,6 +1,5 @@
 use Rattle.kit.specs.Names.{arith, needs}
-use Rattle.rules.specs.Contract.{rowsNow}
-use Rattle.rules.specs.Lent.{Rows}
+use Rattle.rules.specs.Rules.{rowsNow, Rows}
 use Rattle.show.proofs.PieceLaws.{saying, then}
 use Rattle.replies.proofs.ReplyLaws.{no-row, a-row}
 use Rattle.replies.proofs.parts.row.Statement.{statement}

@@ -1,7 +1,5 @@
 use Rattle.kit.specs.Names.{refl, ap, _-_, _<_, now, arith, ne-eqb, needs}
-use Rattle.rules.specs.Lent.{Rows, Log}
-use Rattle.rules.specs.Write.{Memory, memory}
-use Rattle.rules.specs.Contract.{rowsNow}
+use Rattle.rules.specs.Rules.{Rows, Log, Memory, memory, rowsNow}
 use Rattle.rewrites.proofs.LogLaws.{saves-shut, saves-idle, Logging, logging-starts, logging-goes-on, node-in, entry-in, logged-all}
 use Rattle.rewrites.proofs.walk.log_walk.Statement.{statement}
 use Rattle.rewrites.proofs.walk.log_walk.Tie as tie

@@ -1,6 +1,5 @@
 use Rattle.kit.specs.Names.{now, arith}
-use Rattle.rules.specs.Write.{Memory, memory}
-use Rattle.rules.specs.Contract.{rowsNow, memoryNow}
+use Rattle.rules.specs.Rules.{Memory, memory, rowsNow, memoryNow}
 use Rattle.rewrites.proofs.RewriteWalk.{short-walk, leads, rewritten}
 use Rattle.rewrites.proofs.walk.rewrite.Statement.{statement}
 use Rattle.rewrites.proofs.walk.rewrite.Tie as tie

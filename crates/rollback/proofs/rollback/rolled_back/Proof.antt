@@ -1,6 +1,6 @@
 -- `rollback::rolled_back` meets its contract. Assumes nothing.
 use Rattle.kit.specs.Names.{ap, needs}
-use Rattle.rules.specs.Lent.{head}
+use Rattle.rules.specs.Rules.{head}
 use Rattle.rollback.proofs.rollback.rolled_back.Statement.{statement}
 use Rattle.rollback.proofs.rollback.rolled_back.Tie as tie
 

@@ -1,6 +1,6 @@
 -- `undo::undoable` meets its contract: the entries not yet read decide, from the count reached. Assumes nothing.
 use Rattle.kit.specs.Names.{_≡_, refl, ap, sym, _∙_, ℕ, _+_, _-_, _≤_, now, arith, not-true, not-false, needs}
-use Rattle.rules.specs.Tokens.{newestFirst, undoable}
+use Rattle.rules.specs.Rules.{newestFirst, undoable}
 use Rattle.rollback.proofs.UndoLaws.{refused-next, passed-next}
 use Rattle.rollback.proofs.undo.undoable.Statement.{statement}
 use Rattle.rollback.proofs.undo.undoable.Tie as tie

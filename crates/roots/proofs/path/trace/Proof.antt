@@ -1,5 +1,5 @@
 use Rattle.kit.specs.Names.{_≡_, _-_, _≤_, length, take, set, length-set, arith, needs}
-use Rattle.rules.specs.Walk.{path}
+use Rattle.rules.specs.Rules.{path}
 use Rattle.roots.proofs.PathLaws.{along, trace-root, trace-out, trace-spent, trace-more}
 use Rattle.roots.proofs.path.trace.Statement.{statement}
 use Rattle.roots.proofs.path.trace.Tie as tie

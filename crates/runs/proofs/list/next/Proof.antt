@@ -1,10 +1,5 @@
 use Rattle.kit.specs.Names.{sym, ap, _∙_, needs}
-use Rattle.rules.specs.declared.table.Sought.{Sought}
-use Rattle.rules.specs.declared.table.State.{State}
-use Rattle.rules.specs.Lent.{Table}
-use Rattle.rules.specs.Contract.{tableNow}
-use Rattle.rules.specs.Refusal.{Outcome}
-use Rattle.rules.specs.Step.{step}
+use Rattle.rules.specs.Rules.{Sought, State, Table, tableNow, Outcome, step}
 use Rattle.undo_log.specs.Settled.{markFor}
 use Rattle.layout.specs.State.{stateBy}
 use Rattle.coding.specs.Coding.{callAt}

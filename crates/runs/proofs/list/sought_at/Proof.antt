@@ -1,5 +1,5 @@
 use Rattle.kit.specs.Names.{ℕ, getD, _+_, _∙_, needs}
-use Rattle.rules.specs.declared.table.State.{State}
+use Rattle.rules.specs.Rules.{State}
 use Rattle.layout.specs.State.{stateBy}
 use Rattle.runs.proofs.RunLaws.{code-names-none, code-closes, code-asks}
 use Rattle.runs.proofs.list.sought_at.Statement.{statement}

@@ -1,6 +1,5 @@
 use borrow.Author.Needs.{needs}
-use Rattle.rules.specs.Contract.{tableNow}
-use Rattle.rules.specs.Lent.{Table}
+use Rattle.rules.specs.Rules.{tableNow, Table}
 use Rattle.say.specs.Reply.{replyPieces}
 use Rattle.show.proofs.PieceLaws.{nothing, saying}
 use Rattle.say.proofs.SayLaws.{replied, live-said}

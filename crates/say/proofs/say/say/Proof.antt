@@ -1,7 +1,5 @@
 use borrow.Author.Needs.{needs}
-use Rattle.rules.specs.Contract.{tableNow}
-use Rattle.rules.specs.Lent.{Table}
-use Rattle.rules.specs.Refusal.{Sizes, sizes}
+use Rattle.rules.specs.Rules.{tableNow, Table, Sizes, sizes}
 use Rattle.arrays.proofs.CutLaws.{Cut, cut-parents, cut-crowns, cut-amounts, cut-log}
 use Rattle.show.proofs.PieceLaws.{saying}
 use Rattle.say.proofs.SayLaws.{all-said}

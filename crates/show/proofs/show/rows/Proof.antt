@@ -1,6 +1,6 @@
 -- The invariant: so far the first `i` rows are printed. Assumes nothing.
 use Rattle.kit.specs.Names.{_≡_, ℕ, _-_, _≤_, length, arith, needs}
-use Rattle.rules.specs.Contract.{rowsNow}
+use Rattle.rules.specs.Rules.{rowsNow}
 use Rattle.show.specs.Pieces.{Said}
 use Rattle.show.specs.Shown.{Pieces, each, rowPieces}
 use Rattle.show.proofs.PieceLaws.{none, one-more, all, then}

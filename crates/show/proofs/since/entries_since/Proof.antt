@@ -1,7 +1,6 @@
 -- The invariant: so far the entries up to `i` are printed. Assumes nothing.
 use Rattle.kit.specs.Names.{_≡_, ap, ℕ, _+_, _-_, _≤_, length, arith, needs}
-use Rattle.rules.specs.Lent.{Log}
-use Rattle.rules.specs.Tokens.{viewed}
+use Rattle.rules.specs.Rules.{Log, viewed}
 use Rattle.parts.specs.declared.entries.Numbers.{Numbers}
 use Rattle.extract.specs.Numbers.{lentAt}
 use Rattle.show.specs.Pieces.{Said}

@@ -1,5 +1,4 @@
-use Rattle.rules.specs.Write.{Memory, memory}
-use Rattle.rules.specs.Contract.{rowsNow, memoryNow}
+use Rattle.rules.specs.Rules.{Memory, memory, rowsNow, memoryNow}
 use Rattle.snapshot_vec.proofs.UpdateLaws.{logged-row}
 use Rattle.snapshot_vec.proofs.update.log_row.Statement.{statement}
 use Rattle.snapshot_vec.proofs.update.log_row.Tie as tie

@@ -1,6 +1,4 @@
-use Rattle.rules.specs.Lent.{Rows}
-use Rattle.rules.specs.Write.{Memory, memory}
-use Rattle.rules.specs.Contract.{rowsNow, memoryNow}
+use Rattle.rules.specs.Rules.{Rows, Memory, memory, rowsNow, memoryNow}
 use Rattle.snapshot_vec.proofs.UpdateLaws.{push-is}
 use Rattle.snapshot_vec.proofs.update.push.Statement.{statement}
 use Rattle.snapshot_vec.proofs.update.push.Tie as tie

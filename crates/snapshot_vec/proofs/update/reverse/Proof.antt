@@ -1,6 +1,5 @@
 use Rattle.kit.specs.Names.{subst, needs}
-use Rattle.rules.specs.declared.table.UndoLog.{UndoLog}
-use Rattle.rules.specs.Contract.{rowsNow}
+use Rattle.rules.specs.Rules.{UndoLog, rowsNow}
 use Rattle.parts.specs.Bounds.{Undoing}
 use Rattle.snapshot_vec.proofs.update.reverse.Statement.{statement}
 use Rattle.snapshot_vec.proofs.update.reverse.Tie as tie

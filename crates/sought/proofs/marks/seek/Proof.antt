@@ -1,6 +1,6 @@
 -- `marks::seek` meets its contract: the marks from `left` on are none of the token's. Assumes nothing.
 use Rattle.kit.specs.Names.{_≡_, refl, ap, sym, _∙_, ℕ, suc, _-_, _≤_, _<_, arith, needs}
-use Rattle.rules.specs.Tokens.{seek}
+use Rattle.rules.specs.Rules.{seek}
 use Rattle.undo_log.proofs.MarkLaws.{seek-hit, seek-miss}
 use Rattle.sought.proofs.marks.seek.Statement.{statement}
 use Rattle.sought.proofs.marks.seek.Tie as tie

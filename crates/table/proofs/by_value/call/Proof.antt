@@ -1,6 +1,4 @@
-use Rattle.rules.specs.declared.table.State.{State}
-use Rattle.rules.specs.Lent.{Table, table}
-use Rattle.rules.specs.Contract.{tableNow}
+use Rattle.rules.specs.Rules.{State, Table, table, tableNow}
 use Rattle.table.proofs.StateCalls.{by-state}
 use borrow.Author.Needs.{needs}
 use Rattle.table.proofs.by_value.call.Statement.{statement}

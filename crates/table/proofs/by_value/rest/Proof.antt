@@ -1,6 +1,5 @@
 use Rattle.kit.specs.Names.{subst, needs}
-use Rattle.rules.specs.declared.call.Call.{Call}
-use Rattle.rules.specs.Contract.{tableNow}
+use Rattle.rules.specs.Rules.{Call, tableNow}
 use Rattle.decisions.specs.Decided.{Carried}
 use Rattle.table.proofs.StateCalls.{by-state}
 use Rattle.table.proofs.by_value.rest.Statement.{statement}

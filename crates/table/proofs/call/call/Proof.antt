@@ -1,6 +1,5 @@
 use Rattle.kit.specs.Names.{sym, _∙_, now, needs}
-use Rattle.rules.specs.Lent.{Rows, Log}
-use Rattle.rules.specs.Contract.{rowsNow}
+use Rattle.rules.specs.Rules.{Rows, Log, rowsNow}
 use Rattle.decisions.proofs.DoesLaws.{bad-does}
 use Rattle.table.proofs.call.call.Statement.{statement}
 use Rattle.table.proofs.call.call.Tie as tie

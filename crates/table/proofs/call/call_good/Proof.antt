@@ -1,6 +1,5 @@
 use Rattle.kit.specs.Names.{_≡_, subst, now, needs}
-use Rattle.rules.specs.Lent.{Rows, Log}
-use Rattle.rules.specs.Contract.{rowsNow}
+use Rattle.rules.specs.Rules.{Rows, Log, rowsNow}
 use Rattle.decisions.specs.declared.decision.Decision.{Decision}
 use Rattle.decisions.specs.Decided.{Decided}
 use Rattle.writes.proofs.EndLaws.{near-carried}

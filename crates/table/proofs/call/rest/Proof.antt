@@ -1,6 +1,5 @@
 use Rattle.kit.specs.Names.{sym, _∙_, now, needs}
-use Rattle.rules.specs.Lent.{Rows, Log}
-use Rattle.rules.specs.Contract.{rowsNow}
+use Rattle.rules.specs.Rules.{Rows, Log, rowsNow}
 use Rattle.undo_log.specs.HeadCalls.{headCall}
 use Rattle.decisions.proofs.FitLaws.{good}
 use Rattle.decisions.proofs.DoesLaws.{bad-does, rest-carried}

@@ -1,6 +1,5 @@
 use Rattle.kit.specs.Names.{sym, _∙_, now, needs}
-use Rattle.rules.specs.Lent.{Rows, Log}
-use Rattle.rules.specs.Contract.{rowsNow}
+use Rattle.rules.specs.Rules.{Rows, Log, rowsNow}
 use Rattle.rollback.proofs.RollbackLaws.{all-logged}
 use Rattle.direct.proofs.DirectLaws.{back-missing, back-broken, back-done}
 use Rattle.taking_back.proofs.calls.roll_back.Statement.{statement}

@@ -1,6 +1,5 @@
 use borrow.Author.Needs.{needs}
-use Rattle.rules.specs.Lent.{Rows}
-use Rattle.rules.specs.Contract.{rowsNow}
+use Rattle.rules.specs.Rules.{Rows, rowsNow}
 use Rattle.join.proofs.TwoLaws.{join-same, unioned-is}
 use Rattle.two_walks.proofs.plan.two_plan.Statement.{statement}
 use Rattle.two_walks.proofs.plan.two_plan.Tie as tie

@@ -1,7 +1,6 @@
 -- `undo::undo` meets its contract: what is left to undo, of the rows as they stand, leads to the same rows. Assumes nothing.
 use Rattle.kit.specs.Names.{_+_, _-_, now, arith, needs}
-use Rattle.rules.specs.Lent.{Rows}
-use Rattle.rules.specs.Contract.{rowsNow}
+use Rattle.rules.specs.Rules.{Rows, rowsNow}
 use Rattle.rollback.proofs.UndoLaws.{Undone, none-undone, undone-row, undone-more, all-undone}
 use Rattle.undoing.proofs.undo.undo.Statement.{statement}
 use Rattle.undoing.proofs.undo.undo.Tie as tie

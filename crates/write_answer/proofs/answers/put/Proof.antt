@@ -1,6 +1,6 @@
 -- What is left of the fields leads to the same numbers.
 use Rattle.kit.specs.Names.{ap, _-_, _≤_, length, arith, needs}
-use Rattle.rules.specs.Answer.{answerNumbers}
+use Rattle.rules.specs.Rules.{answerNumbers}
 use Rattle.write_answer.proofs.AnswerLaws.{Stored, none-stored, one-stored, all-stored}
 use Rattle.write_answer.proofs.answers.put.Statement.{statement}
 use Rattle.write_answer.proofs.answers.put.Tie as tie

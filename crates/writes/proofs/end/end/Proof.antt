@@ -1,7 +1,5 @@
 use Rattle.kit.specs.Names.{_≡_, refl, ap, subst, now, needs}
-use Rattle.rules.specs.Lent.{Rows, Log}
-use Rattle.rules.specs.Contract.{rowsNow}
-use Rattle.rules.specs.Write.{Memory, memory}
+use Rattle.rules.specs.Rules.{Rows, Log, rowsNow, Memory, memory}
 use Rattle.decisions.specs.declared.todo.End.{End}
 use Rattle.decisions.specs.End.{endedWith, EndableOn}
 use Rattle.writes.proofs.EndLaws.{rows-ended, push-ended}

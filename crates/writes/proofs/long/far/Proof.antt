@@ -1,7 +1,5 @@
 use Rattle.kit.specs.Names.{refl, subst, now, needs}
-use Rattle.rules.specs.Lent.{Rows, Log}
-use Rattle.rules.specs.Contract.{rowsNow}
-use Rattle.rules.specs.Write.{Memory, memory}
+use Rattle.rules.specs.Rules.{Rows, Log, rowsNow, Memory, memory}
 use Rattle.plans.specs.declared.verdict.Verdict.{Verdict}
 use Rattle.decisions.specs.Sorted.{walkCall}
 use Rattle.decisions.specs.Decided.{DoableIf}
