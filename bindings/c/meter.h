@@ -1,4 +1,5 @@
-/* The meter's table for C: link target/staticlib/libhost.a, or target/bindings/libmeter.so.
+/* The meter's table for C: link target/staticlib/libhost.a (and librecorder.a and
+ * libreplayer.a for the journal's functions), or target/bindings/libmeter.so.
  *
  * The archive keeps no memory and allocates none. A table is six arrays that the caller owns and lends for the time of
  * a call: two for the state, three for the rows, one for the log. docs/LIBRARY.md says more, with examples.
@@ -105,15 +106,17 @@ enum {
   METER_BROKEN_TABLE = 8,   /* damaged memory: parents, ranks, marks or entries that no table has */
   METER_BAD_STATE = 9,      /* above the limits, parts of unequal length, or a state that is none */
   METER_SERIALS_SPENT = 10, /* snapshot: the last serial is 18446744073709551615 */
-  METER_NOT_OPEN = 11       /* keys, actions, changes: no open snapshot has the token */
+  METER_NOT_OPEN = 11,      /* keys, actions, changes: no open snapshot has the token */
+  METER_BAD_JOURNAL = 12,   /* bytes that are no journal, or a journal that this can't be written to */
+  METER_NO_ROOM = 16        /* the journal would be longer than its bytes */
 };
 
-/* What the two functions return, tested in this order. After any but METER_CARRIED_OUT nothing at all was written. */
+/* What the functions return, tested in this order. After any but METER_CARRIED_OUT nothing at all was written. */
 enum {
-  METER_CARRIED_OUT = 0, /* every call was; each one's own refusal stands in its answer */
-  METER_NO_STATE = 1,    /* numbers is not 67 long, or serials not 33 */
+  METER_CARRIED_OUT = 0, /* what was asked for was done or refused: the answer or the result says which */
+  METER_NO_STATE = 1,    /* numbers is not 67 long, serials not 33, or known not 4 numbers of a journal */
   METER_NO_CALL = 2,     /* a length that is no call's or no list's, or four numbers that are no call */
-  METER_NO_ROOM = 3      /* fewer than nine numbers of room for each answer */
+  METER_NO_ANSWERS = 3   /* fewer than nine numbers of room for each answer, or not two for a result */
 };
 
 /* Carries out one call: call_len is 4, and the answer's first nine numbers are written. Lengths are in elements. */
@@ -128,6 +131,72 @@ uint32_t meter_calls(uint32_t *numbers, size_t numbers_len, uint64_t *serials, s
                      size_t parents_len, uint32_t *crowns, size_t crowns_len, uint64_t *amounts, size_t amounts_len,
                      uint32_t *log, size_t log_len, const uint64_t *calls, size_t calls_len, uint64_t *answers,
                      size_t answers_len);
+
+/* ---- The journal: the calls that change a table and were answered METER_DONE, to be carried out again later.
+ *
+ * Its bytes are segments of 1 to 2048 entries of 24 bytes, each ended by a trailer of 12. Entries that are recorded
+ * wait behind the last trailer, and are no part of the journal yet: a segment is ended at its 2048th entry, or by a
+ * flush. */
+enum {
+  METER_JOURNAL_ENTRY_BYTES = 24,
+  METER_JOURNAL_TRAILER_BYTES = 12,
+  METER_JOURNAL_SEGMENT = 2048,
+  METER_JOURNAL_NEW = 1,      /* owner, amount */
+  METER_JOURNAL_POST = 2,     /* key a, owner, amount */
+  METER_JOURNAL_JOIN = 3,     /* key a, key b */
+  METER_JOURNAL_SNAPSHOT = 4, /* */
+  METER_JOURNAL_ROLLBACK = 5, /* of the innermost snapshot */
+  METER_JOURNAL_COMMIT = 6    /* likewise */
+};
+
+/* What a recorder knows of the journal that it adds to. All zero is an empty journal's. */
+enum {
+  METER_KNOWN_NUMBERS = 4,
+  METER_KNOWN_USED = 0,     /* the journal's length in bytes */
+  METER_KNOWN_SEGMENTS = 1, /* and in segments */
+  METER_KNOWN_OPEN = 2,     /* snapshots that are open in it, the waiting entries counted; below 2^32 */
+  METER_KNOWN_WAITING = 3   /* entries that wait behind it */
+};
+
+/* A result is two numbers. */
+enum {
+  METER_RESULT_NUMBERS = 2,
+  METER_RESULT_NO = 0,     /* METER_DONE or the number of refusal */
+  METER_RESULT_LENGTH = 1, /* flush, append, known: the journal's length in bytes, afterwards */
+  METER_RESULT_ENTRY = 1   /* replay: the place of the entry that was refused, or how many were carried out */
+};
+
+/* Carries out a list as meter_calls does, and writes each call of the six kinds that is answered METER_DONE behind the
+ * journal. Such a call is not carried out, and its answer is METER_BAD_JOURNAL, where known can't be of a journal of
+ * this table: another number of open snapshots, 2048 entries that wait, or 2^32 segments; else METER_NO_ROOM, where the
+ * entry and a trailer don't fit into the bytes. */
+uint32_t meter_record(uint32_t *numbers, size_t numbers_len, uint64_t *serials, size_t serials_len, uint32_t *parents,
+                      size_t parents_len, uint32_t *crowns, size_t crowns_len, uint64_t *amounts, size_t amounts_len,
+                      uint32_t *log, size_t log_len, const uint64_t *calls, size_t calls_len, uint64_t *answers,
+                      size_t answers_len, uint8_t *journal, size_t journal_len, uint64_t *known, size_t known_len);
+
+/* Makes the entries that wait a segment, if there are any. METER_BAD_JOURNAL, with nothing changed, where known can't
+ * be what meter_record left for these bytes. */
+uint32_t meter_flush(uint8_t *journal, size_t journal_len, uint64_t *known, size_t known_len, uint64_t *result,
+                     size_t result_len);
+
+/* Appends entries, 24 bytes each, as one segment to the journal that is the first `used` bytes. METER_BAD_JOURNAL where
+ * it isn't valid or wouldn't be with them, then METER_NO_ROOM; nothing is written then. What waits is written over, so
+ * flush first; and known has to be worked out again. */
+uint32_t meter_append(uint8_t *journal, size_t journal_len, size_t used, const uint8_t *entries, size_t entries_len,
+                      uint64_t *result, size_t result_len);
+
+/* Judges a whole journal, and writes what a recorder has to know of it. METER_BAD_JOURNAL and length 0 where it isn't
+ * valid; known is left then. */
+uint32_t meter_known(const uint8_t *journal, size_t journal_len, uint64_t *known, size_t known_len, uint64_t *result,
+                     size_t result_len);
+
+/* Carries out a journal's entries, up to the first that isn't answered METER_DONE. The journal is judged whole before:
+ * METER_BAD_JOURNAL, and entry 0, where it isn't valid. The table should be fresh. */
+uint32_t meter_replay(uint32_t *numbers, size_t numbers_len, uint64_t *serials, size_t serials_len, uint32_t *parents,
+                      size_t parents_len, uint32_t *crowns, size_t crowns_len, uint64_t *amounts, size_t amounts_len,
+                      uint32_t *log, size_t log_len, const uint8_t *journal, size_t journal_len, uint64_t *result,
+                      size_t result_len);
 
 /* The six arrays of a table in one place. */
 struct meter_table {
@@ -166,6 +235,62 @@ static inline uint32_t meter_ask(const struct meter_table *t, const uint64_t *ca
 /* A list of `n` calls on a table: 4 * n numbers in, 9 * n out. */
 static inline uint32_t meter_ask_all(const struct meter_table *t, const uint64_t *calls, size_t n, uint64_t *answers) {
   return meter_calls(METER_LEND(t), calls, METER_CALL_NUMBERS * n, answers, METER_ANSWER_NUMBERS * n);
+}
+
+/* A journal's bytes, and what is known of it. With all numbers zero it is empty, whatever the bytes hold. */
+struct meter_journal {
+  uint8_t *bytes;
+  size_t room; /* how many bytes are lent */
+  uint64_t known[METER_KNOWN_NUMBERS];
+};
+
+/* A list of `n` calls on a table, written to a journal. */
+static inline uint32_t meter_journal_record(const struct meter_table *t, struct meter_journal *j, const uint64_t *calls,
+                                            size_t n, uint64_t *answers) {
+  return meter_record(METER_LEND(t), calls, METER_CALL_NUMBERS * n, answers, METER_ANSWER_NUMBERS * n, j->bytes,
+                      j->room, j->known, METER_KNOWN_NUMBERS);
+}
+
+/* What waits made a segment. From then on the first result[METER_RESULT_LENGTH] bytes are all of the journal. */
+static inline uint32_t meter_journal_flush(struct meter_journal *j, uint64_t *result) {
+  return meter_flush(j->bytes, j->room, j->known, METER_KNOWN_NUMBERS, result, METER_RESULT_NUMBERS);
+}
+
+/* The journal that the first `used` bytes are: judged, and known where it is valid. */
+static inline uint32_t meter_journal_read(struct meter_journal *j, size_t used, uint64_t *result) {
+  return meter_known(j->bytes, used, j->known, METER_KNOWN_NUMBERS, result, METER_RESULT_NUMBERS);
+}
+
+/* Entries, `n` of 24 bytes, appended as one segment. What waits is made a segment first. */
+static inline uint32_t meter_journal_append(struct meter_journal *j, const uint8_t *entries, size_t n,
+                                            uint64_t *result) {
+  uint32_t code = meter_journal_flush(j, result);
+  if (code != METER_CARRIED_OUT || result[METER_RESULT_NO] != METER_DONE) return code;
+  code = meter_append(j->bytes, j->room, (size_t)j->known[METER_KNOWN_USED], entries, METER_JOURNAL_ENTRY_BYTES * n,
+                      result, METER_RESULT_NUMBERS);
+  if (code != METER_CARRIED_OUT || result[METER_RESULT_NO] != METER_DONE) return code;
+  return meter_journal_read(j, (size_t)result[METER_RESULT_LENGTH], result);
+}
+
+/* A journal carried out on a table. What waits is made a segment first. */
+static inline uint32_t meter_journal_replay(const struct meter_table *t, struct meter_journal *j, uint64_t *result) {
+  const uint32_t code = meter_journal_flush(j, result);
+  if (code != METER_CARRIED_OUT || result[METER_RESULT_NO] != METER_DONE) return code;
+  return meter_replay(METER_LEND(t), j->bytes, (size_t)j->known[METER_KNOWN_USED], result, METER_RESULT_NUMBERS);
+}
+
+/* How many entries a journal has, with those that wait. */
+static inline uint64_t meter_journal_entries(const struct meter_journal *j) {
+  return (j->known[METER_KNOWN_USED] - METER_JOURNAL_TRAILER_BYTES * j->known[METER_KNOWN_SEGMENTS]) /
+             METER_JOURNAL_ENTRY_BYTES +
+         j->known[METER_KNOWN_WAITING];
+}
+
+/* The 24 bytes of an entry, little-endian, written to `entry`. Numbers that its kind doesn't name are 0. */
+static inline void meter_put_entry(uint8_t *entry, uint32_t kind, uint32_t a, uint32_t b, uint32_t owner,
+                                   uint64_t amount) {
+  const uint32_t words[6] = {kind, a, b, owner, (uint32_t)amount, (uint32_t)(amount >> 32)};
+  for (int i = 0; i < METER_JOURNAL_ENTRY_BYTES; i++) entry[i] = (uint8_t)(words[i / 4] >> 8 * (i % 4));
 }
 
 /* The four numbers of each call, written to `call`. */

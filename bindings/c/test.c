@@ -464,15 +464,15 @@ static void lengths_of_calls(void) {
   CHECK(with_lengths(1, LENGTHS(67, 33, 0, 0), calls, to) == METER_CARRIED_OUT);
 }
 
-static void no_room(void) {
+static void no_answers(void) {
   const uint64_t two[8] = {METER_CODE_NEW, 0, 1, 0, METER_CODE_NEW, 0, 2, 0};
   uint64_t to[18] = {0};
   make_t(4, 4);
-  not_carried_out(METER_NO_ROOM, LENGTHS(67, 33, 4, 8), CALL(METER_CODE_NEW, 0, 0, 0));
-  not_carried_out(METER_NO_ROOM, LENGTHS(67, 33, 4, 0), CALL(METER_CODE_NEW, 0, 0, 0));
+  not_carried_out(METER_NO_ANSWERS, LENGTHS(67, 33, 4, 8), CALL(METER_CODE_NEW, 0, 0, 0));
+  not_carried_out(METER_NO_ANSWERS, LENGTHS(67, 33, 4, 0), CALL(METER_CODE_NEW, 0, 0, 0));
   size_t bytes;
   unsigned char *memory = copy_memory(&bytes);
-  CHECK(with_lengths(1, LENGTHS(67, 33, 8, 17), two, to) == METER_NO_ROOM);
+  CHECK(with_lengths(1, LENGTHS(67, 33, 8, 17), two, to) == METER_NO_ANSWERS);
   CHECK(still_as(memory));
   CHECK(with_lengths(1, LENGTHS(67, 33, 8, 18), two, to) == METER_CARRIED_OUT);
 }
@@ -600,6 +600,277 @@ static void a_list_is_its_calls_one_by_one(void) {
   CHECK((met & 0x85F) == 0x85F); /* 0 to 4, 6 and 11 */
 }
 
+/* ---- the journal */
+
+enum { JOURNAL_ROOM = 1 << 18 };
+static uint8_t bytes[JOURNAL_ROOM];
+static struct meter_journal journal;
+static uint64_t result[METER_RESULT_NUMBERS];
+
+/* An empty journal in bytes that hold something. */
+static void fresh_journal(size_t room) {
+  memset(bytes, 0xA5, sizeof bytes);
+  journal = (struct meter_journal){.bytes = bytes, .room = room};
+}
+
+/* Records one call into `answer`, and gives its number. */
+static uint64_t record(uint64_t code, uint64_t a, uint64_t b, uint64_t c) {
+  uint64_t call[METER_CALL_NUMBERS];
+  meter_put(call, code, a, b, c);
+  CHECK(meter_journal_record(&table, &journal, call, 1, answer) == METER_CARRIED_OUT);
+  return answer[METER_ANSWER_NO];
+}
+
+static int resulted(uint64_t no, uint64_t number) {
+  return result[METER_RESULT_NO] == no && result[METER_RESULT_LENGTH] == number;
+}
+
+static int known_is(uint64_t used, uint64_t segments, uint64_t opened, uint64_t waiting) {
+  const uint64_t wanted[METER_KNOWN_NUMBERS] = {used, segments, opened, waiting};
+  return memcmp(journal.known, wanted, sizeof wanted) == 0;
+}
+
+static int flushed(uint64_t no, uint64_t length) {
+  return meter_journal_flush(&journal, result) == METER_CARRIED_OUT && resulted(no, length);
+}
+
+/* new(7, 300); join(0, 0); snapshot; a find, which isn't written; a rollback; a join of no key, which is refused. */
+static void record_some(void) {
+  CHECK(record(METER_CODE_NEW, 7, 300, 0) == METER_DONE);
+  CHECK(record(METER_CODE_JOIN, 0, 0, 0) == METER_DONE);
+  CHECK(record(METER_CODE_SNAPSHOT, 0, 0, 0) == METER_DONE);
+  const uint64_t token = answer[METER_ANSWER_TOKEN];
+  CHECK(known_is(0, 0, 1, 3));
+  CHECK(record(METER_CODE_FIND, 0, 0, 0) == METER_DONE);
+  CHECK(record(METER_CODE_ROLLBACK, token, 0, 0) == METER_DONE);
+  CHECK(record(METER_CODE_JOIN, 0, 1, 0) == METER_NO_KEY);
+  CHECK(known_is(0, 0, 0, 4));
+}
+
+static void a_journals_bytes(void) {
+  fresh(2, 2);
+  fresh_journal(200);
+  record_some();
+  CHECK(flushed(METER_DONE, 108));
+  CHECK(known_is(108, 1, 0, 0));
+  CHECK(meter_journal_entries(&journal) == 4);
+  static const uint8_t wanted[] = {
+      1,  0, 0, 0, 0, 0, 0, 0, 0, 0, 0, 0, 7, 0, 0, 0, 44, 1, 0, 0, 0, 0, 0, 0, /* new(7, 300) */
+      3,  0, 0, 0, 0, 0, 0, 0, 0, 0, 0, 0, 0, 0, 0, 0, 0,  0, 0, 0, 0, 0, 0, 0, /* join(0, 0) */
+      4,  0, 0, 0, 0, 0, 0, 0, 0, 0, 0, 0, 0, 0, 0, 0, 0,  0, 0, 0, 0, 0, 0, 0, /* snapshot */
+      5,  0, 0, 0, 0, 0, 0, 0, 0, 0, 0, 0, 0, 0, 0, 0, 0,  0, 0, 0, 0, 0, 0, 0, /* rollback */
+      96, 0, 0, 0, 4, 0, 0, 0, 0, 0, 0, 0};                                     /* distance, count, number */
+  CHECK(memcmp(bytes, wanted, sizeof wanted) == 0);
+  for (size_t i = sizeof wanted; i < sizeof bytes; i++) CHECK(bytes[i] == 0xA5);
+  CHECK(flushed(METER_DONE, 108)); /* nothing waits: nothing more */
+}
+
+static void a_journal_is_judged(void) {
+  fresh(2, 2);
+  fresh_journal(200);
+  record_some();
+  CHECK(flushed(METER_DONE, 108));
+  CHECK(record(METER_CODE_SNAPSHOT, 0, 0, 0) == METER_DONE);
+  CHECK(flushed(METER_DONE, 144));
+  memset(journal.known, 0xFF, sizeof journal.known);
+  CHECK(meter_journal_read(&journal, 144, result) == METER_CARRIED_OUT && resulted(METER_DONE, 144));
+  CHECK(known_is(144, 2, 1, 0));
+  CHECK(meter_journal_read(&journal, 0, result) == METER_CARRIED_OUT && resulted(METER_DONE, 0));
+  CHECK(known_is(0, 0, 0, 0));
+  /* What is no journal leaves what is known. */
+  memset(journal.known, 0x11, sizeof journal.known);
+  const struct meter_journal before = journal;
+  for (size_t i = 1; i < 144; i++) {
+    if (i == 108) continue; /* where the first segment ends */
+    CHECK(meter_journal_read(&journal, i, result) == METER_CARRIED_OUT && resulted(METER_BAD_JOURNAL, 0));
+  }
+  for (size_t i = 0; i < 144; i++) {
+    if (i >= 12 && i < 24) continue; /* any owner and any amount will do */
+    if (i >= 28 && i < 36) continue; /* and any key of a join, though there may be none */
+    bytes[i] ^= 0x80;
+    CHECK(meter_journal_read(&journal, 144, result) == METER_CARRIED_OUT && resulted(METER_BAD_JOURNAL, 0));
+    bytes[i] ^= 0x80;
+  }
+  CHECK(memcmp(&before, &journal, sizeof before) == 0);
+}
+
+static void a_day_is_replayed(void) {
+  enum { CALLS = 12000, KEYS = 40 };
+  static uint64_t calls[4 * CALLS], answers[9 * CALLS];
+  uint64_t random = 1, tokens[METER_SNAPSHOTS_LIMIT + 1] = {0};
+  int open = 0;
+  fresh(KEYS, 20000);
+  fresh_journal(JOURNAL_ROOM);
+  size_t done = 0;
+  for (size_t i = 0; i < CALLS; i++) {
+    random = random * 6364136223846793005u + 1442695040888963407u;
+    const uint64_t r = random >> 33, a = r % KEYS, b = r / KEYS % KEYS;
+    static const uint8_t codes[] = {0, 0, 2, 4, 4, 5, 5, 6, 9, 10, 11};
+    const uint64_t code = codes[r / 4096 % sizeof codes];
+    uint64_t *call = calls + 4 * i;
+    if (code == METER_CODE_NEW)
+      meter_put_new(call, (uint32_t)(r % 3), r);
+    else if (code == METER_CODE_JOIN)
+      meter_put_join(call, (uint32_t)a, (uint32_t)b);
+    else if (code == METER_CODE_POST)
+      meter_put_post(call, (uint32_t)a, (uint32_t)(b % 3), r);
+    else if (code == METER_CODE_SNAPSHOT)
+      meter_put_snapshot(call);
+    else
+      meter_put(call, code, code < METER_CODE_SNAPSHOT ? a : tokens[open], 0, 0);
+    CHECK(meter_journal_record(&table, &journal, call, 1, answers + 9 * i) == METER_CARRIED_OUT);
+    if (answers[9 * i] != METER_DONE || code == METER_CODE_FIND || code == METER_CODE_PROBE) continue;
+    done++;
+    if (code == METER_CODE_SNAPSHOT)
+      tokens[++open] = answers[9 * i + METER_ANSWER_TOKEN];
+    else if (code > METER_CODE_SNAPSHOT)
+      open--;
+  }
+  CHECK(meter_journal_entries(&journal) == done && done > METER_JOURNAL_SEGMENT);
+  CHECK(journal.known[METER_KNOWN_SEGMENTS] == done / METER_JOURNAL_SEGMENT); /* those that are full, by themselves */
+  const uint32_t count = numbers[METER_NUMBERS_COUNT], opened = numbers[METER_NUMBERS_OPEN];
+  static uint64_t before[9 * KEYS], after[9 * KEYS];
+  for (uint32_t key = 0; key < count; key++) {
+    ask(METER_CODE_PROBE_KEY, key, 0, 0);
+    memcpy(before + 9 * key, answer, sizeof answer);
+  }
+  CHECK(journal.known[METER_KNOWN_OPEN] == opened);
+  /* All at once, the same answers and the same bytes. */
+  const struct meter_journal kept = journal;
+  uint8_t *copy = malloc(sizeof bytes);
+  if (!copy) abort();
+  memcpy(copy, bytes, sizeof bytes);
+  static uint64_t together[9 * CALLS];
+  fresh(KEYS, 20000);
+  fresh_journal(JOURNAL_ROOM);
+  CHECK(meter_journal_record(&table, &journal, calls, CALLS, together) == METER_CARRIED_OUT);
+  CHECK(memcmp(answers, together, sizeof answers) == 0);
+  CHECK(memcmp(&kept, &journal, sizeof kept) == 0 && memcmp(copy, bytes, sizeof bytes) == 0);
+  free(copy);
+  /* And replayed. */
+  fresh(KEYS, 32 * done);
+  CHECK(meter_journal_replay(&table, &journal, result) == METER_CARRIED_OUT && resulted(METER_DONE, done));
+  CHECK(numbers[METER_NUMBERS_COUNT] == count && numbers[METER_NUMBERS_OPEN] == opened);
+  for (uint32_t key = 0; key < count; key++) {
+    ask(METER_CODE_PROBE_KEY, key, 0, 0);
+    memcpy(after + 9 * key, answer, sizeof answer);
+    before[9 * key + METER_ANSWER_STEPS] = after[9 * key + METER_ANSWER_STEPS] = 0; /* other parents may differ */
+  }
+  CHECK(memcmp(before, after, sizeof before) == 0);
+}
+
+static void a_replay_names_where_it_stops(void) {
+  fresh(2, 2);
+  fresh_journal(200);
+  record_some();
+  CHECK(record(METER_CODE_NEW, 0, 1, 0) == METER_DONE);
+  CHECK(flushed(METER_DONE, 132));
+  fresh(1, 2);
+  CHECK(meter_journal_replay(&table, &journal, result) == METER_CARRIED_OUT && resulted(METER_KEYS_FULL, 4));
+  CHECK(numbers[METER_NUMBERS_COUNT] == 1 && amounts[0] == 300); /* what came before it is there */
+  fresh(1, 2);
+  size_t size;
+  unsigned char *before = copy_memory(&size);
+  bytes[4] = 1;
+  CHECK(meter_journal_replay(&table, &journal, result) == METER_CARRIED_OUT && resulted(METER_BAD_JOURNAL, 0));
+  CHECK(still_as(before));
+}
+
+static void a_call_without_room_is_not_carried_out(void) {
+  fresh(3, 0);
+  fresh_journal(2 * METER_JOURNAL_ENTRY_BYTES + METER_JOURNAL_TRAILER_BYTES);
+  CHECK(record(METER_CODE_NEW, 0, 1, 0) == METER_DONE);
+  CHECK(record(METER_CODE_NEW, 0, 2, 0) == METER_DONE);
+  const struct meter_journal before = journal;
+  REFUSED(METER_NO_ROOM, record(METER_CODE_NEW, 0, 3, 0));
+  CHECK(record(METER_CODE_PROBE, 0, 0, 0) == METER_DONE); /* what isn't written needs no room */
+  CHECK(memcmp(&before, &journal, sizeof before) == 0);
+  CHECK(flushed(METER_DONE, 60)); /* a trailer's room is kept */
+  REFUSED(METER_NO_ROOM, record(METER_CODE_NEW, 0, 3, 0));
+}
+
+static void a_journal_of_another_table(void) {
+  fresh(3, 3);
+  fresh_journal(200);
+  CHECK(snapshot() == METER_DONE); /* not recorded */
+  REFUSED(METER_BAD_JOURNAL, record(METER_CODE_NEW, 0, 1, 0));
+  CHECK(known_is(0, 0, 0, 0));
+  journal.known[METER_KNOWN_OPEN] = 1;
+  CHECK(record(METER_CODE_NEW, 0, 1, 0) == METER_DONE);
+  journal.known[METER_KNOWN_WAITING] = METER_JOURNAL_SEGMENT;
+  REFUSED(METER_BAD_JOURNAL, record(METER_CODE_NEW, 0, 1, 0));
+  journal.known[METER_KNOWN_WAITING] = METER_JOURNAL_SEGMENT + 1;
+  const struct meter_journal before = journal;
+  CHECK(flushed(METER_BAD_JOURNAL, 0));
+  CHECK(memcmp(&before, &journal, sizeof before) == 0);
+}
+
+static void segments_are_appended(void) {
+  uint8_t entries[3 * METER_JOURNAL_ENTRY_BYTES], one[METER_JOURNAL_ENTRY_BYTES];
+  meter_put_entry(entries, METER_JOURNAL_NEW, 0, 0, 7, UINT64_MAX);
+  meter_put_entry(entries + 24, METER_JOURNAL_SNAPSHOT, 0, 0, 0, 0);
+  meter_put_entry(entries + 48, METER_JOURNAL_POST, 0, 0, 7, 0);
+  meter_put_entry(one, METER_JOURNAL_ROLLBACK, 0, 0, 0, 0);
+  fresh_journal(84 + 35);
+  CHECK(meter_journal_append(&journal, one, 1, result) == METER_CARRIED_OUT);
+  CHECK(resulted(METER_BAD_JOURNAL, 0)); /* nothing is open */
+  CHECK(meter_journal_append(&journal, entries, 0, result) == METER_CARRIED_OUT && resulted(METER_BAD_JOURNAL, 0));
+  CHECK(bytes[0] == 0xA5 && known_is(0, 0, 0, 0));
+  CHECK(meter_journal_append(&journal, entries, 3, result) == METER_CARRIED_OUT && resulted(METER_DONE, 84));
+  CHECK(known_is(84, 1, 1, 0));
+  CHECK(meter_journal_append(&journal, one, 1, result) == METER_CARRIED_OUT && resulted(METER_NO_ROOM, 84));
+  CHECK(bytes[84] == 0xA5 && known_is(84, 1, 1, 0));
+  journal.room++;
+  CHECK(meter_journal_append(&journal, one, 1, result) == METER_CARRIED_OUT && resulted(METER_DONE, 120));
+  CHECK(known_is(120, 2, 0, 0));
+  fresh(1, 4);
+  CHECK(meter_journal_replay(&table, &journal, result) == METER_CARRIED_OUT && resulted(METER_DONE, 4));
+  CHECK(row_is(0, 0, 0, 7, UINT64_MAX));
+  /* What waits isn't lost. */
+  journal.room = JOURNAL_ROOM;
+  CHECK(record(METER_CODE_POST, 0, 7, 0) == METER_DONE && known_is(120, 2, 0, 1));
+  CHECK(meter_journal_append(&journal, entries + 24, 1, result) == METER_CARRIED_OUT && resulted(METER_DONE, 192));
+  CHECK(known_is(192, 4, 1, 0) && meter_journal_entries(&journal) == 6);
+  /* 2049 entries are no segment. */
+  static uint8_t many[2049 * METER_JOURNAL_ENTRY_BYTES];
+  for (size_t i = 0; i < 2049; i++) meter_put_entry(many + 24 * i, METER_JOURNAL_NEW, 0, 0, 0, i);
+  CHECK(meter_journal_append(&journal, many, 2049, result) == METER_CARRIED_OUT && resulted(METER_BAD_JOURNAL, 192));
+  CHECK(meter_journal_append(&journal, many, 2048, result) == METER_CARRIED_OUT && resulted(METER_DONE, 49356));
+  /* A used length above the bytes, and bytes that are no whole entries. */
+  CHECK(meter_append(bytes, 10, 11, one, 24, result, 2) == METER_CARRIED_OUT && resulted(METER_BAD_JOURNAL, 11));
+  CHECK(meter_append(bytes, 100, 0, many, 25, result, 2) == METER_CARRIED_OUT && resulted(METER_BAD_JOURNAL, 0));
+}
+
+/* Each function of the journal tests what is lent, and writes nothing where that is not right. */
+static void what_the_journals_functions_return(void) {
+  fresh(2, 2);
+  fresh_journal(200);
+  uint64_t call[METER_CALL_NUMBERS], known[5] = {0}, room[3] = {0};
+  meter_put_new(call, 1, 2);
+  size_t size;
+  unsigned char *before = copy_memory(&size);
+#define RECORD(calls_len, answers_len, known_len) \
+  meter_record(METER_LEND(&table), call, calls_len, answer, answers_len, bytes, 200, known, known_len)
+  CHECK(RECORD(4, 9, 3) == METER_NO_STATE);
+  CHECK(RECORD(4, 9, 5) == METER_NO_STATE);
+  CHECK(RECORD(3, 9, 4) == METER_NO_CALL);
+  CHECK(RECORD(4, 8, 4) == METER_NO_ANSWERS);
+  known[METER_KNOWN_OPEN] = (uint64_t)1 << 32;
+  CHECK(RECORD(3, 8, 4) == METER_NO_STATE); /* the first test that fails */
+  CHECK(meter_flush(bytes, 200, known, 4, room, 2) == METER_NO_STATE);
+  known[METER_KNOWN_OPEN]--;
+  CHECK(RECORD(4, 9, 4) == METER_CARRIED_OUT && answer[METER_ANSWER_NO] == METER_BAD_JOURNAL);
+  CHECK(still_as(before));
+  CHECK(meter_flush(bytes, 200, known, 3, room, 2) == METER_NO_STATE);
+  CHECK(meter_flush(bytes, 200, known, 4, room, 1) == METER_NO_ANSWERS);
+  CHECK(meter_flush(bytes, 200, known, 4, room, 3) == METER_NO_ANSWERS);
+  CHECK(meter_append(bytes, 200, 0, bytes, 24, room, 1) == METER_NO_ANSWERS);
+  CHECK(meter_known(bytes, 0, known, 5, room, 2) == METER_NO_STATE);
+  CHECK(meter_known(bytes, 0, known, 4, room, 3) == METER_NO_ANSWERS);
+  CHECK(meter_replay(METER_LEND(&table), bytes, 0, room, 3) == METER_NO_ANSWERS);
+  CHECK(room[0] == 0 && room[1] == 0 && room[2] == 0 && bytes[0] == 0xA5);
+}
+
 #define TEST(name) \
   { #name, name }
 static const struct {
@@ -628,12 +899,20 @@ static const struct {
              TEST(no_state),
              TEST(no_call),
              TEST(lengths_of_calls),
-             TEST(no_room),
+             TEST(no_answers),
              TEST(first_test_that_fails_is_returned),
              TEST(a_list_is_tested_whole),
              TEST(a_refused_call_does_not_stop_a_list),
              TEST(room_past_the_answers_is_left),
-             TEST(a_list_is_its_calls_one_by_one)};
+             TEST(a_list_is_its_calls_one_by_one),
+             TEST(a_journals_bytes),
+             TEST(a_journal_is_judged),
+             TEST(a_day_is_replayed),
+             TEST(a_replay_names_where_it_stops),
+             TEST(a_call_without_room_is_not_carried_out),
+             TEST(a_journal_of_another_table),
+             TEST(segments_are_appended),
+             TEST(what_the_journals_functions_return)};
 
 int main(void) {
   int passed = 0, failed = 0;

@@ -7,10 +7,11 @@ import sys
 import unittest
 
 import meter
-from meter import Answer, Meter, NewElem, NotCarriedOut, Row, SetElem, Value
+from meter import (ACTIONS, CHANGES, COMMIT, FIND, JOIN, KEYS, LEN, NEW, POST, PROBE, PROBE_KEY, ROLLBACK, SNAPSHOT,
+                   TRY_PROBE, UNIONED, Answer, BadJournal, Journal, Meter, NewElem, NoRoom, NotCarriedOut, Row, SetElem,
+                   Stopped, Value, entry_commit, entry_join, entry_new, entry_post, entry_rollback,
+                   entry_snapshot)  # fmt: skip
 
-NEW, LEN, FIND, UNIONED, JOIN, POST, PROBE, PROBE_KEY, TRY_PROBE = range(9)
-SNAPSHOT, ROLLBACK, COMMIT, KEYS, ACTIONS, CHANGES = range(9, 15)
 MAX = 2**64 - 1
 
 
@@ -238,6 +239,128 @@ class Lists(unittest.TestCase):
 
     def test_an_empty_list(self):
         self.assertEqual(table_t().run([]), [])
+
+
+def a_day(table, journal, calls, seed):
+    """Calls of several kinds on 40 keys, each recorded with another that isn't written. How many were written."""
+    choose, tokens, written = random.Random(seed), [0], 0
+    for _ in range(calls):
+        a, b, owner, amount = (choose.randrange(limit) for limit in (40, 40, 3, 1000))
+        call = choose.choice((
+            (NEW, owner, amount, 0), (JOIN, a, b, 0), (POST, a, owner, amount), (POST, b, owner, amount),
+            (FIND, a, 0, 0), (SNAPSHOT, 0, 0, 0), (ROLLBACK, tokens[-1], 0, 0), (COMMIT, tokens[-1], 0, 0),
+        ))  # fmt: skip
+        answer, _ = table.record(journal, [call, (LEN, 0, 0, 0)])
+        if answer.token:
+            tokens.append(answer.token)
+        elif call[0] in (ROLLBACK, COMMIT) and answer.no == 0:
+            tokens.pop()
+        written += answer.no == 0 and call[0] != FIND
+    return written
+
+
+def groups(table):
+    """What a replay must give again: each key's root, the root's rank and the group's value."""
+    found = [table.probe_key_value(key) for key in range(len(table))]
+    return [(root, table.row(root).rank, value) for root, value in found]
+
+
+class Journals(unittest.TestCase):
+    def test_a_day_is_replayed(self):
+        for seed in range(5):
+            table, journal = Meter(40, 9000), Journal()
+            written = a_day(table, journal, 6000, seed)
+            self.assertEqual((len(journal), journal.segments, journal.waiting),
+                             (written, written // 2048, written % 2048))  # fmt: skip
+            night = Meter(40, min(32 * written, meter.LOG_LIMIT))
+            self.assertEqual(journal.replay(night), written)
+            self.assertEqual(groups(night), groups(table))
+            self.assertEqual(night.num_open_snapshots, table.num_open_snapshots)
+            again = Journal.from_bytes(bytes(journal))
+            self.assertEqual((len(again), again.segments, again.num_open_snapshots, bytes(again)),
+                             (written, journal.segments, table.num_open_snapshots, bytes(journal)))  # fmt: skip
+
+    def test_a_journal_is_gone_on_with(self):
+        table, journal = Meter(40, 9000), Journal()
+        a_day(table, journal, 500, 1)
+        journal = Journal.from_bytes(bytes(journal))
+        a_day(table, journal, 500, 2)
+        night = Meter(40, meter.LOG_LIMIT)
+        self.assertEqual(night.replay(journal), len(journal))
+        self.assertEqual(groups(night), groups(table))
+
+    def test_bytes(self):
+        table, journal = Meter(2, 2), Journal()
+        table.record(journal, [(NEW, 7, 300, 0), (JOIN, 0, 0, 0), (SNAPSHOT, 0, 0, 0)])
+        table.record(journal, [(FIND, 0, 0, 0), (JOIN, 0, 1, 0)])  # a question, and NO_KEY
+        self.assertEqual((len(journal), journal.waiting, journal.segments, journal.num_open_snapshots), (3, 3, 0, 1))
+        wanted = entry_new(7, 300) + entry_join(0, 0) + entry_snapshot() + bytes([72, 0, 0, 0, 3, 0, 0, 0, 0, 0, 0, 0])
+        self.assertEqual(bytes(journal), wanted)
+        self.assertEqual((len(journal), journal.waiting, journal.segments), (3, 0, 1))
+        self.assertEqual(entry_post(258, 3, MAX), bytes([2, 0, 0, 0, 2, 1, 0, 0, 0, 0, 0, 0, 3, 0, 0, 0] + 8 * [255]))
+
+    def test_appends(self):
+        journal = Journal()
+        for entries in ([], [entry_commit()], [entry_new()] * 2049, b"?", bytes(24)):
+            self.assertRaises(BadJournal, journal.append, entries)
+        self.assertEqual(bytes(journal), b"")
+        journal.append([entry_new(7, 1), entry_snapshot()])
+        self.assertRaises(BadJournal, journal.append, [entry_snapshot()] * 32)
+        journal.append([entry_snapshot()] * 31)
+        journal.append([entry_commit(), entry_rollback()])
+        self.assertEqual((len(journal), journal.segments, journal.num_open_snapshots), (35, 3, 30))
+        self.assertRaises(BadJournal, entry_new, 2**32)
+        self.assertRaises(BadJournal, entry_post, 0, 0, 2**64)
+
+    def test_an_append_behind_entries_that_wait(self):
+        table, journal = Meter(2, 0), Journal()
+        table.record(journal, [(NEW, 7, 1, 0)])
+        journal.append([entry_post(0, 7, 2)])
+        self.assertEqual((len(journal), journal.segments), (2, 2))
+        journal.replay(night := Meter(2, 0))
+        self.assertEqual(night.probe_value(0), Value(7, 3))
+
+    def test_a_limit(self):
+        table, journal = Meter(4, 0), Journal(limit=71)
+        answers = table.record(journal, [(NEW, 7, 1, 0)] * 3)
+        self.assertEqual([answer.no for answer in answers], [0, 0, NoRoom.number])
+        self.assertEqual((len(table), len(journal)), (2, 2))
+        self.assertRaises(NoRoom, journal.append, [entry_new()])
+        self.assertEqual(len(bytes(journal)), 60)
+
+    def test_a_journal_of_another_meter(self):
+        table, journal = Meter(4, 4), Journal()
+        token = table.snapshot()  # not recorded
+        answers = table.record(journal, [(NEW, 7, 1, 0), (ROLLBACK, token, 0, 0), (LEN, 0, 0, 0)])
+        self.assertEqual([answer.no for answer in answers], [12, 12, 0])
+        self.assertEqual((len(table), table.num_open_snapshots, len(journal)), (0, 1, 0))
+
+    def test_what_is_no_journal(self):
+        journal = Journal()
+        journal.append([entry_new(7, 1), entry_snapshot()])
+        journal.append([entry_commit()])
+        data, table = bytes(journal), Meter(4, 4)
+        for short in set(range(1, len(data))) - {60}:
+            self.assertRaises(BadJournal, Journal.from_bytes, data[:short])
+            self.assertRaises(BadJournal, table.replay, data[:short])
+        self.assertEqual((len(table), table.replay(data)), (0, 3))
+        self.assertEqual(len(Journal.from_bytes(b"")), 0)
+
+    def test_a_replay_names_where_it_stops(self):
+        journal, table = Journal(), Meter(4, 0)
+        journal.append([entry_new(7, 1), entry_new(8, 1)])
+        journal.append([entry_join(0, 1), entry_new()])
+        with self.assertRaises(Stopped) as caught:
+            journal.replay(table)
+        self.assertEqual((caught.exception.entry, caught.exception.refusal.name), (2, "OWNER_CLASH"))
+        self.assertEqual(str(caught.exception), "entry 2: OWNER_CLASH (4): the merge of two different named owners")
+        self.assertEqual(len(table), 2)
+
+    def test_numbers_that_are_no_call(self):
+        table, journal = Meter(4, 0), Journal()
+        for call in ((15, 0, 0, 0), (NEW, 0, 1), (POST, 0, 0, 2**64)):
+            self.assertRaises(NotCarriedOut, table.record, journal, [(NEW, 0, 1, 0), call])
+        self.assertEqual((len(table), len(journal)), (0, 0))
 
 
 if __name__ == "__main__":

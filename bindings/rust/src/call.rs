@@ -141,7 +141,7 @@ impl Answer {
     ///
     /// # Panics
     ///
-    /// Where they are no answer: a number of refusal above 11, or a key, owner or range of 2^32 or above.
+    /// Where they are no answer: a number that is no refusal's, or a key, owner or range of 2^32 or above.
     pub(crate) fn read(numbers: &[u64]) -> Answer {
         let narrow = |at: usize| u32::try_from(numbers[at]).expect("keys, owners and ranges are below 2^32");
         Answer {

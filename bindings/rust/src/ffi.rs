@@ -1,4 +1,4 @@
-//! The archive's two functions, over memory that Rust owns. No other module has unsafe code.
+//! The archive's two functions for calls, over memory that Rust owns. Unsafe code is here and in `journal_ffi` alone.
 #![allow(unsafe_code)]
 
 pub const NUMBERS: usize = 67;

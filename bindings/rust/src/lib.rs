@@ -23,17 +23,23 @@
 //!     Ok(())
 //! }
 //! ```
-#![deny(unsafe_code)] // ffi alone allows it
+//!
+//! A [`Journal`] has the calls that changed a table; replayed into a fresh one it gives the same groups, owners and
+//! amounts.
+#![deny(unsafe_code)] // ffi and journal_ffi alone allow it
 #![warn(missing_docs)]
 
 mod actions;
 mod call;
 mod ffi;
+mod journal;
+mod journal_ffi;
 mod meter;
 mod refusal;
 
 pub use actions::{Actions, Row, UndoLog};
 pub use call::{Answer, Call, Key, Token, Value};
+pub use journal::{Entry, Journal, NoJournal, Stopped};
 pub use meter::Meter;
 pub use refusal::{NotCarriedOut, Refusal};
 

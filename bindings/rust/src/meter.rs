@@ -5,6 +5,8 @@ use std::ops::Range;
 use crate::actions::{Actions, Row};
 use crate::call::{Answer, Call, Key, Token, Value};
 use crate::ffi::{self, Memory};
+use crate::journal::{refusal, Journal, Stopped};
+use crate::journal_ffi;
 use crate::refusal::{NotCarriedOut, Refusal};
 
 /// Places of the state's numbers.
@@ -246,10 +248,50 @@ impl Meter {
     /// let two = [0, 7, 500, 0, 6, 0, 0, 0]; // new(7, 500), probe(0)
     /// meter.run_numbers(&two, &mut answers).unwrap();
     /// assert_eq!(answers[9..], [0, 0, 0, 7, 500, 0, 0, 0, 0]);
-    /// assert_eq!(meter.run_numbers(&two, &mut [0; 17]), Err(NotCarriedOut::NoRoom));
+    /// assert_eq!(meter.run_numbers(&two, &mut [0; 17]), Err(NotCarriedOut::NoAnswers));
     /// assert_eq!(meter.run_numbers(&two[1..], &mut answers), Err(NotCarriedOut::NoCall));
     /// ```
     pub fn run_numbers(&mut self, calls: &[u64], answers: &mut [u64]) -> Result<(), NotCarriedOut> {
         NotCarriedOut::check(self.memory.calls(calls, answers))
+    }
+
+    /// Carries out a list of calls as [`Meter::run`] does, and writes to the journal those that change the table and
+    /// are done. Such a call is not carried out, and answers [`Refusal::BadJournal`], where the journal has another
+    /// number of open snapshots than the meter; else [`Refusal::NoRoom`], where the journal has a limit that its entry
+    /// would pass.
+    ///
+    /// ```
+    /// use meter::{Call, Journal, Meter, Refusal, Value};
+    /// let mut meter = Meter::new(1, 0)?;
+    /// let mut journal = Journal::empty();
+    /// let calls = [Call::New(Value::new(7, 5)), Call::New(Value::default()), Call::Len];
+    /// let answers = meter.record(&mut journal, &calls).unwrap();
+    /// assert_eq!(answers[1].refusal, Some(Refusal::KeysFull));
+    /// assert_eq!((journal.len(), journal.waiting()), (1, 1)); // a refused call and a question aren't written
+    /// # Ok::<(), Refusal>(())
+    /// ```
+    pub fn record(&mut self, journal: &mut Journal, calls: &[Call]) -> Result<Vec<Answer>, NotCarriedOut> {
+        let mut answers = vec![0; ffi::ANSWER * calls.len()];
+        journal.record(&mut self.memory, calls, &mut answers)?;
+        Ok(answers.chunks_exact(ffi::ANSWER).map(Answer::read).collect())
+    }
+
+    /// Carries out the entries of a journal, and says how many they were. It stops at the first that isn't done. Into a
+    /// fresh meter with as many rows, and with a log of 32 for each entry, it gives the groups, owners and amounts that
+    /// the recorded meter had.
+    ///
+    /// ```
+    /// use meter::{Entry, Journal, Meter, Refusal, Stopped, Value};
+    /// let mut journal = Journal::empty();
+    /// journal.append(&[Entry::New(Value::new(7, 5)), Entry::New(Value::new(0, 6))])?;
+    /// assert_eq!(Meter::new(2, 0)?.replay(journal.bytes()), Ok(2));
+    /// assert_eq!(Meter::new(1, 0)?.replay(journal.bytes()), Err(Stopped { refusal: Refusal::KeysFull, entry: 1 }));
+    /// assert_eq!(Meter::new(2, 0)?.replay(b"?"), Err(Stopped { refusal: Refusal::BadJournal, entry: 0 }));
+    /// # Ok::<(), Refusal>(())
+    /// ```
+    pub fn replay(&mut self, journal: &[u8]) -> Result<usize, Stopped> {
+        let [no, entry] = journal_ffi::replay(&mut self.memory, journal);
+        let entry = entry as usize;
+        refusal(no).map_or(Ok(entry), |refusal| Err(Stopped { refusal, entry }))
     }
 }

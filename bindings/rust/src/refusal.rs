@@ -3,7 +3,7 @@
 use std::error::Error;
 use std::fmt;
 
-/// Why a call was refused: document 01's names and numbers.
+/// Why a call, or something asked of a journal, was refused: the names and numbers of documents 01 and 02.
 ///
 /// [`OwnerClash`](Refusal::OwnerClash) and [`TooMuch`](Refusal::TooMuch) keep what the call's walks rewrote, which
 /// changes no answer but the steps of later ones. Every other refusal leaves the table untouched.
@@ -32,11 +32,16 @@ pub enum Refusal {
     SerialsSpent = 10,
     /// No open snapshot has the token.
     NotOpen = 11,
+    /// Bytes that are no journal, entries that can't stand in one, or a journal with another number of open snapshots
+    /// than the meter has.
+    BadJournal = 12,
+    /// The journal would be longer than its limit.
+    NoRoom = 16,
 }
 
 impl Refusal {
     /// All of them, by number.
-    pub const ALL: [Refusal; 11] = [
+    pub const ALL: [Refusal; 13] = [
         Refusal::NoKey,
         Refusal::KeysFull,
         Refusal::LogFull,
@@ -48,14 +53,16 @@ impl Refusal {
         Refusal::BadState,
         Refusal::SerialsSpent,
         Refusal::NotOpen,
+        Refusal::BadJournal,
+        Refusal::NoRoom,
     ];
 
-    /// The number, from 1 to 11.
+    /// The number: 1 to 12, or 16.
     pub fn number(self) -> u64 {
         self as u64
     }
 
-    /// The refusal of that number. None for 0, which is DONE, and above 11.
+    /// The refusal of that number, if there is one. 0 is DONE.
     pub fn from_number(number: u64) -> Option<Refusal> {
         Refusal::ALL.into_iter().find(|refusal| refusal.number() == number)
     }
@@ -74,6 +81,8 @@ impl Refusal {
             Refusal::BadState => "BAD_STATE",
             Refusal::SerialsSpent => "SERIALS_SPENT",
             Refusal::NotOpen => "NOT_OPEN",
+            Refusal::BadJournal => "BAD_JOURNAL",
+            Refusal::NoRoom => "NO_ROOM",
         }
     }
 }
@@ -95,7 +104,7 @@ pub enum NotCarriedOut {
     /// The list's length is no multiple of 4, or four of its numbers are no call.
     NoCall = 2,
     /// Fewer than nine numbers of room for each answer.
-    NoRoom = 3,
+    NoAnswers = 3,
 }
 
 impl NotCarriedOut {
@@ -104,7 +113,7 @@ impl NotCarriedOut {
             0 => Ok(()),
             1 => Err(NotCarriedOut::NoState),
             2 => Err(NotCarriedOut::NoCall),
-            3 => Err(NotCarriedOut::NoRoom),
+            3 => Err(NotCarriedOut::NoAnswers),
             other => panic!("the archive returned {other}, which this crate doesn't know"),
         }
     }
@@ -114,7 +123,7 @@ impl NotCarriedOut {
         match self {
             NotCarriedOut::NoState => "NO_STATE",
             NotCarriedOut::NoCall => "NO_CALL",
-            NotCarriedOut::NoRoom => "NO_ROOM",
+            NotCarriedOut::NoAnswers => "NO_ANSWERS",
         }
     }
 }

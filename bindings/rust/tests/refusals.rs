@@ -24,9 +24,9 @@ fn refused(meter: &mut Meter, call: Call, refusal: Refusal) {
 }
 
 #[test]
-fn names_and_numbers_are_document_01s() {
+fn names_and_numbers_are_the_documents() {
     let names: Vec<(u64, &str)> = Refusal::ALL.map(|r| (r.number(), r.name())).to_vec();
-    let of_01 = [
+    let wanted = [
         (1, "NO_KEY"),
         (2, "KEYS_FULL"),
         (3, "LOG_FULL"),
@@ -38,12 +38,14 @@ fn names_and_numbers_are_document_01s() {
         (9, "BAD_STATE"),
         (10, "SERIALS_SPENT"),
         (11, "NOT_OPEN"),
+        (12, "BAD_JOURNAL"),
+        (16, "NO_ROOM"),
     ];
-    assert_eq!(names, of_01);
+    assert_eq!(names, wanted);
     for refusal in Refusal::ALL {
         assert_eq!(Refusal::from_number(refusal.number()), Some(refusal));
     }
-    assert_eq!((Refusal::from_number(0), Refusal::from_number(12)), (None, None));
+    assert_eq!((Refusal::from_number(0), Refusal::from_number(13)), (None, None));
     assert_eq!(Refusal::NoKey.to_string(), "NO_KEY (1)");
 }
 
@@ -141,7 +143,10 @@ fn numbers_that_are_no_list() {
         );
     }
     let two = new_then([1, 0, 0, 0]);
-    assert_eq!(meter.run_numbers(&two, &mut answers[..17]), Err(NotCarriedOut::NoRoom));
+    assert_eq!(
+        meter.run_numbers(&two, &mut answers[..17]),
+        Err(NotCarriedOut::NoAnswers)
+    );
     assert_eq!((answers, seen(&meter)), ([77; 18], before));
     assert_eq!(meter.run_numbers(&two, &mut answers), Ok(()));
     assert_eq!(answers[9..], [0, 0, 0, 0, 0, 0, 0, 0, 2]);

@@ -2,7 +2,7 @@
 use Rattle.kit.specs.Names.{_≡_, refl, sym, ap, _∙_, true, false, List, ℕ, _*_, _≤_, _<_, length, eqb, arith, decLt, ℕ-discrete, lt-ltb, le-ltb, eq-eqb, ne-eqb}
 use Rattle.layout.specs.State.{NUMBERS, SERIALS}
 use Rattle.coding.specs.Coding.{Listed, unlisted, calls, isListed, callsIn}
-use Rattle.admit.specs.Admit.{CARRIED-OUT, NO-STATE, NO-CALL, NO-ROOM, hearing, admission}
+use Rattle.admit.specs.Admit.{CARRIED-OUT, NO-STATE, NO-CALL, NO-ANSWERS, hearing, admission}
 
 unlisted-is : (l : Listed) → isListed l ≡ false → l ≡ unlisted
 unlisted-is unlisted e = refl
@@ -34,8 +34,8 @@ module _ (numbers serials : ℕ) (l : Listed) (answers : ℕ) where
         heard : hearing (calls (callsIn l)) answers ≡ admission numbers serials l answers
         heard = sym (ap (λ (x : Listed). hearing x answers) (calls-are l e)) ∙ hear
 
-        pub no-room : answers < 9 * length (callsIn l) → NO-ROOM ≡ admission numbers serials l answers
-        no-room k = sym (rw (lt-ltb answers (9 * length (callsIn l)) k)) ∙ heard
+        pub no-answers : answers < 9 * length (callsIn l) → NO-ANSWERS ≡ admission numbers serials l answers
+        no-answers k = sym (rw (lt-ltb answers (9 * length (callsIn l)) k)) ∙ heard
 
         pub with-room : 9 * length (callsIn l) ≤ answers → CARRIED-OUT ≡ admission numbers serials l answers
         with-room k = sym (rw (le-ltb answers (9 * length (callsIn l)) k)) ∙ heard
@@ -50,7 +50,7 @@ pub record Admitted (n s : ℕ) (l : Listed) (a : ℕ) : Type 0 where
 heard-out : (l : Listed) (a : ℕ) → hearing l a ≡ CARRIED-OUT → (isListed l ≡ true) × (9 * length (callsIn l) ≤ a)
 heard-out unlisted a e = absurd (omega arith)
 heard-out (calls cs) a e = elim (decLt a (9 * length cs)) [
-  | yes k ↦ absurd (let f : NO-ROOM ≡ CARRIED-OUT = sym (rw (lt-ltb a (9 * length cs) k)) ∙ e in omega arith)
+  | yes k ↦ absurd (let f : NO-ANSWERS ≡ CARRIED-OUT = sym (rw (lt-ltb a (9 * length cs) k)) ∙ e in omega arith)
   | no n ↦ (refl, omega arith)
 ]
 

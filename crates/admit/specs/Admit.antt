@@ -13,12 +13,12 @@ NO-STATE = 1
 abbrev pub NO-CALL : ℕ
 NO-CALL = 2
 
-abbrev pub NO-ROOM : ℕ
-NO-ROOM = 3
+abbrev pub NO-ANSWERS : ℕ
+NO-ANSWERS = 3
 
 abbrev pub hearing : Listed → ℕ → ℕ
 hearing unlisted answers = NO-CALL
-hearing (calls cs) answers = cond (ltb answers (9 * length cs)) NO-ROOM CARRIED-OUT
+hearing (calls cs) answers = cond (ltb answers (9 * length cs)) NO-ANSWERS CARRIED-OUT
 
 -- "Tested in this order": a state's numbers, the calls, room for the answers.
 unfoldable pub admission : ℕ → ℕ → Listed → ℕ → ℕ

@@ -14,7 +14,7 @@ pub const NO_STATE: u32 = 1;
 
 pub const NO_CALL: u32 = 2;
 
-pub const NO_ROOM: u32 = 3;
+pub const NO_ANSWERS: u32 = 3;
 
 // What a list of calls is returned with, by how many numbers are lent for the state and for the answers.
 pub fn test_calls(numbers: usize, serials: usize, calls: &[u64], answers: usize) -> u32
@@ -30,7 +30,7 @@ pub fn test_calls(numbers: usize, serials: usize, calls: &[u64], answers: usize)
         return NO_CALL;
     }
     if answers / ANSWER < calls.len() / CALL {
-        return NO_ROOM;
+        return NO_ANSWERS;
     }
     CARRIED_OUT
 }

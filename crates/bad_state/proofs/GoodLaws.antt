@@ -6,7 +6,7 @@ use Rattle.rules.specs.Rules.{SERIALS-SPENT, MAX-OPEN, MAX-U64, Rows, Log, Tabl
 use Rattle.rules.specs.Rules.{refuseState, Memory, Write, place, edit, logged, put, puts, memoryOf, full, Plan, Walked, walk, walkBoth, findOn, unionedOn, joinOn}
 use Rattle.rules.specs.Rules.{postOn, probeOn, probeKeyOn, tryProbe, innermost, notInnermost, unfit, stranded, seek, asked, ask, snapshot, commit, len, since}
 use Rattle.rules.specs.Rules.{undoable, reversed, undo, Outcome, refuse, carry, Sizes, sizesOf, stray, bad, badTable, notLive, new, live, one, two, resting}
-use Rattle.rules.specs.Rules.{rollback, call, step}
+use Rattle.rules.specs.Rules.{rollback, call, step, outcome, refusal, BAD-STATE}
 use Rattle.rules.specs.declared.call.Call.the-variants.{New, Len, Find, Unioned, Join, Post, Probe, ProbeKey, TryProbe, Snapshot, Rollback, Commit, Keys, Actions, Changes}
 use Rattle.rules.specs.declared.table.Sought.the-variants.{Missing, Held}
 use Rattle.rules.specs.declared.table.UndoLog.the-variants.{NewElem, SetElem, Unknown}
@@ -229,3 +229,8 @@ left t c e = rw e
 pub bad-after : (t : Table) (c : Call) (b : Bool) → b ≡ badTable t → let u = step t c .table in (b || stray (headOf (u .state))) ≡ badTable u
 bad-after t c true e = e ∙ ap badTable (left t c (sym e))
 bad-after t c false e = let u = step t c .table in sym (roomy-bad (sizesOf (u .rows) (u .log)) (headOf (u .state)) (step-roomy t c (sym e)))
+
+-- Where the table is bad, any call is refused.
+pub refused-bad : (t : Table) (c : Call) → badTable t ≡ true → outcome (refusal BAD-STATE) t ≡ step t c
+unfolding step
+refused-bad t c e = rw e

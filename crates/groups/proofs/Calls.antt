@@ -46,7 +46,7 @@ module _ {over : ℕ → Rows} {t : Table} {h : History} (S : StandsOver over t 
   nothing-used (x ∷ xs) e z = absurd (busy S x xs e z)
 
   -- The state and what is lent are not bad.
-  not-bad : badTable t ≡ false
+  pub not-bad : badTable t ≡ false
   not-bad =
       let R = S .lends .row-parts in
       let L = S .lends .log-parts in

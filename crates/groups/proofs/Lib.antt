@@ -11,3 +11,5 @@ pub mod RowCalls
 pub mod TokenCalls
 pub mod Calls
 pub mod ShownLaws
+pub mod Growth
+pub mod Acceptance

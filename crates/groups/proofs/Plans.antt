@@ -1,5 +1,5 @@
 -- The plan of each call on rows: carried out, it moves the groups as the groups' own step says, and it is never BROKEN_TABLE.
-use Rattle.kit.specs.Names.{_≡_, refl, sym, ap, ap₂, _∙_, subst, subst⁻¹, true, false, cond, List, [], _∷_, _++_, _≢_, inl, inr, ℕ, _+_, _≤_, _<_, eqb, ltb, arith, eqb-true, eqb-false, eq-eqb}
+use Rattle.kit.specs.Names.{_≡_, refl, sym, ap, ap₂, _∙_, subst, subst⁻¹, true, false, cond, List, [], _∷_, _++_, _≢_, _⊎_, inl, inr, ℕ, _+_, _≤_, _<_, eqb, ltb, arith, eqb-true, eqb-false, eq-eqb}
 use Rattle.kit.specs.Names.{ne-eqb, le-ltb}
 use Rattle.rules.specs.Rules.{Call, Answer, Value, Row, Merged, DONE, BROKEN-TABLE, BAD-STATE, MAX-RANK, Rows, value, ownerOf, row, valueOf, rowAt, putRow, WideRows}
 use Rattle.rules.specs.Rules.{merge, Write, redirect, crown, edit, writes, stepped, found, Plan, plan, Walked, walkedOn, goOn, walk, walkBoth, settle, unite}
@@ -8,10 +8,10 @@ use Rattle.rules.specs.declared.call.Call.the-variants.{Find, Unioned, Join, Po
 use Rattle.rules.specs.declared.table.Merged.the-variants.{Clash, TooMuch, Both}
 use Rattle.rules.proofs.ReadLaws.{Real, real-owner, row-real, row-hit, row-miss, wide-put}
 use Rattle.rules.proofs.MergeLaws.{merge-real}
-use Rattle.groups.specs.Groups.{Groups, Deed, joined, posted, at, hung, raised, hungByRank, groupStep, replay, Accepts, Accepted}
+use Rattle.groups.specs.Groups.{Groups, Deed, joined, posted, at, hung, raised, hungByRank, groupStep, replay, Merges, Accepts, Accepted}
 use Rattle.groups.specs.Track.{Calm, event, Act, idle, moves, takes, undoes, closes, act, deedOf}
 use Rattle.groups.specs.Stands.{up, high}
-use Rattle.groups.proofs.Tools.{onCond, cases}
+use Rattle.groups.proofs.Tools.{onCond, cases, either}
 use Rattle.groups.proofs.Whole.{Whole, by-rank, Hangs, hangs-a, hangs-b, hung-whole, step-whole, rank-low}
 use Rattle.groups.proofs.Forest.{is-root, hung-shows, posted-shows}
 use Rattle.groups.proofs.Walks.{Holds, reaches, count-limit, Inside, inside-append, writes-append, wrote, rewritten, rewrites-inside}
@@ -40,6 +40,10 @@ pub record Planned (rs : Rows) (room : ℕ) (now : List Deed) (c : Call) (p : Pl
   pub holds : Holds (writes rs (p .todo)) (replay (after c (p .answer) now)) room
   pub inside : Inside (replay now .count) (p .todo)
   pub peace : Calm (p .answer .no)
+
+settled-done : (walked : List Write) (s : ℕ) (more : Value → List Write) {m : Merged} {x : Value} → m ≡ Both x
+    → settle walked s more m .answer .no ≡ DONE
+settled-done walked s more e = rw e
 
 -- ---- a root gets another value, or is hung under another
 
@@ -182,6 +186,15 @@ module _ {rs : Rows} {room : ℕ} (now : List Deed) (A : Accepted now) (H : Hold
     post-planned =
         rw (walk-ends H key h (postOn given)) (post-settled (merge (valueOf (rowAt (walkedTo .rows) target)) given) refl)
 
+    -- Where the groups accept the post, it is done.
+    pub post-done : Merges (g .value target) given → walk rs (g .count) key (postOn given) .answer .no ≡ DONE
+    post-done (x, m) =
+        let v : valueOf (rowAt (walkedTo .rows) target) ≡ g .value target =
+        root-value (walk-holds H key h) target (H .whole .within key h) (H .whole .settled key) in
+        rw (walk-ends H key h (postOn given))
+        (settled-done (walkedTo .todo) (walkedTo .steps) (λ x. crown target (high (walkedTo .rows) target) x ∷ [])
+        (ap (λ (z : Value). merge z given) v ∙ m))
+
   -- ---- two walks
 
   module _ (a b : ℕ) (ha : a < g .count) (hb : b < g .count) where
@@ -287,3 +300,13 @@ module _ {rs : Rows} {room : ℕ} (now : List Deed) (A : Accepted now) (H : Hold
         (λ e. join-same (eqb-true r s e))
         (λ e. rw (not-high (eqb-false r s e))
         (join-settled (eqb-false r s e) (merge (valueOf (rowAt (second .rows) r)) (valueOf (rowAt (second .rows) s))) refl)))
+
+    -- Where the groups accept the join, it is done.
+    pub join-done : (r ≡ s) ⊎ Merges (g .value r) (g .value s) → walkBoth rs (g .count) a b joinOn .answer .no ≡ DONE
+    join-done ok =
+        rw (both-end joinOn)
+        (onCond (λ (p : Plan). p .answer .no ≡ DONE) (eqb r s) (λ _. refl)
+        (λ e. rw (not-high (eqb-false r s e))
+        (either ok (λ q. absurd (eqb-false r s e q))
+        (λ (x, m). settled-done walked (first .steps + second .steps) (unite (second .rows) r s)
+        (ap₂ merge (root-value both-hold r hr (H .whole .settled a)) (root-value both-hold s hs (H .whole .settled b)) ∙ m)))))

@@ -81,7 +81,7 @@ module _ {over : ℕ → Rows} {t : Table} {h : History} (S : StandsOver over t 
 
   -- The innermost snapshot, where one is open.
   module _ (x : Saved) (xs : List Saved) (e : track h .saved ≡ x ∷ xs) where
-    inner-back : LeadsBack (S .room) (t .log) (markAt (t .state)) over (t .state .used) (t .state .count) (t .rows) (x ∷ xs)
+    pub inner-back : LeadsBack (S .room) (t .log) (markAt (t .state)) over (t .state .used) (t .state .count) (t .rows) (x ∷ xs)
     inner-back = rw e at (S .back)
 
     some-open : t .state .«open» ≡ suc (length xs)
@@ -93,13 +93,13 @@ module _ {over : ℕ → Rows} {t : Table} {h : History} (S : StandsOver over t 
     left-open : t .state .«open» - 1 ≡ length xs
     left-open = omega (arith, some-open)
 
-    abbrev inner : Mark
+    abbrev pub inner : Mark
     inner = markAt (t .state) (length xs)
 
-    inner-is : innermost (t .state) ≡ inner
+    pub inner-is : innermost (t .state) ≡ inner
     inner-is = ap (markAt (t .state)) left-open
 
-    inner-fits : unfit (headOf (t .state)) inner ≡ false
+    pub inner-fits : unfit (headOf (t .state)) inner ≡ false
     inner-fits =
         let (p, q) =
         back-fits (S .room) (t .log) (markAt (t .state)) over (t .state .used) (t .state .count) (t .rows) (x ∷ xs) inner-back
@@ -154,7 +154,7 @@ module _ {over : ℕ → Rows} {t : Table} {h : History} (S : StandsOver over t 
         (λ q. rw (q, inner-fits, inner-back .able) (record { rows = λ _. rw left-open (inner-back .very) }))
         (λ q. rw q (record { rows = λ z. absurd (omega arith) })))
 
-  none-open : track h .saved ≡ [] → t .state .«open» ≡ 0
+  pub none-open : track h .saved ≡ [] → t .state .«open» ≡ 0
   none-open e = S .opened ∙ ap length e
 
   pub keeps-rollback : (token : ℕ) (ys : List Saved) → track h .saved ≡ ys → Keeps over t h (Rollback token) (rollback t token)
@@ -167,7 +167,7 @@ module _ {over : ℕ → Rows} {t : Table} {h : History} (S : StandsOver over t 
   rollback-restores token (x ∷ xs) e = undone-restores x xs e token
 
   -- The only open snapshot, and one of several.
-  closing : (x : Saved) (xs : List Saved) (e : track h .saved ≡ x ∷ xs)
+  pub closing : (x : Saved) (xs : List Saved) (e : track h .saved ≡ x ∷ xs)
       → (stranded (headOf (t .state)) (inner x xs e) ≡ false) × (committed (headOf (t .state)) .used ≤ t .state .used)
       × LeadsBack (S .room) (t .log) (markAt (t .state)) over (committed (headOf (t .state)) .used) (t .state .count) (t .rows) xs
   closing x [] e =

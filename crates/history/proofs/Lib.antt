@@ -3,3 +3,4 @@ pub mod SurvivalLaws
 pub mod LinkLaws
 pub mod AccountLaws
 pub mod Theorem
+pub mod Acceptance

@@ -3,7 +3,7 @@ use Rattle.kit.specs.Names.{_≡_, refl, sym, ap, _∙_, Bool, true, false, con
 use Rattle.layout.specs.State.{Sized}
 use Rattle.coding.specs.Coding.{Listed, unlisted, calls, callList, single, isListed, callsIn}
 use Rattle.coding.proofs.CodingLaws.{four-each}
-use Rattle.admit.specs.Admit.{CARRIED-OUT, NO-STATE, NO-ROOM, hearing, admission}
+use Rattle.admit.specs.Admit.{CARRIED-OUT, NO-STATE, NO-ANSWERS, hearing, admission}
 use Rattle.admit.proofs.AdmitLaws.{admitted, never-out}
 use Rattle.runs.specs.Served.{Host, served}
 use Rattle.host.specs.Host.{Hosted, hosted, refuseHost, stateless, heard, serve}
@@ -12,14 +12,14 @@ use Rattle.host.specs.Host.{Hosted, hosted, refuseHost, stateless, heard
 
 -- Whether there is room.
 abbrev roomCode : Bool → ℕ
-roomCode b = cond b NO-ROOM CARRIED-OUT
+roomCode b = cond b NO-ANSWERS CARRIED-OUT
 
 module _ (h : Host) where
-  away-full : (b : Bool) (x : Hosted) → (roomCode b ≡ CARRIED-OUT → ⊥) → hosted (roomCode b) h ≡ refuseHost b NO-ROOM h x
+  away-full : (b : Bool) (x : Hosted) → (roomCode b ≡ CARRIED-OUT → ⊥) → hosted (roomCode b) h ≡ refuseHost b NO-ANSWERS h x
   away-full true x d = refl
   away-full false x d = absurd (d refl)
 
-  out-roomy : (b : Bool) (x : Hosted) → roomCode b ≡ CARRIED-OUT → x ≡ refuseHost b NO-ROOM h x
+  out-roomy : (b : Bool) (x : Hosted) → roomCode b ≡ CARRIED-OUT → x ≡ refuseHost b NO-ANSWERS h x
   out-roomy true x e = absurd (omega arith)
   out-roomy false x e = refl
 

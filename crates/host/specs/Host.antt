@@ -2,7 +2,7 @@
 use Rattle.kit.specs.Names.{Bool, cond, not, _&&_, ℕ, _*_, length, eqb, ltb}
 use Rattle.layout.specs.State.{NUMBERS, SERIALS}
 use Rattle.coding.specs.Coding.{Listed, unlisted, calls}
-use Rattle.admit.specs.Admit.{CARRIED-OUT, NO-STATE, NO-CALL, NO-ROOM}
+use Rattle.admit.specs.Admit.{CARRIED-OUT, NO-STATE, NO-CALL, NO-ANSWERS}
 use Rattle.runs.specs.Served.{Host, served}
 
 -- A code, and all that is lent as it is left.
@@ -22,7 +22,7 @@ stateless h = not (eqb (length (h .numbers)) NUMBERS && eqb (length (h .serials)
 
 abbrev pub heard : Host → Listed → Hosted
 heard h unlisted = hosted NO-CALL h
-heard h (calls cs) = refuseHost (ltb (length (h .answers)) (9 * length cs)) NO-ROOM h (hosted CARRIED-OUT (served h cs))
+heard h (calls cs) = refuseHost (ltb (length (h .answers)) (9 * length cs)) NO-ANSWERS h (hosted CARRIED-OUT (served h cs))
 
 -- "Tested in this order": a state's numbers, the calls, room for the answers.
 unfoldable pub serve : Host → Listed → Hosted

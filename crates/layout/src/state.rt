@@ -27,7 +27,7 @@ pub fn head_of(numbers: &[u32]) -> Head
 }
 
 // Mark `i`, from the outermost on.
-fn mark_at(numbers: &[u32], serials: &[u64], i: usize) -> Mark
+pub fn mark_at(numbers: &[u32], serials: &[u64], i: usize) -> Mark
     requires { ⌜ Sized (now numbers) (now serials) ⌝ }
     requires { ⌜ i < MAX-OPEN ⌝ }
     ensures { λ r. ⌜ r ≡ markAt (stateOf (now (numbers .entry)) (now (serials .entry))) i ⌝ }

@@ -69,6 +69,13 @@ SERIALS-SPENT = 10
 abbrev pub NOT-OPEN : ℕ
 NOT-OPEN = 11
 
+-- Document 02, Q-1: "12 BAD_JOURNAL", "16 NO_ROOM"
+abbrev pub BAD-JOURNAL : ℕ
+BAD-JOURNAL = 12
+
+abbrev pub NO-ROOM : ℕ
+NO-ROOM = 16
+
 -- The kinds of log entries: any other number is "of no known kind" (docs/DECISIONS.md, 1).
 abbrev pub KIND-UNKNOWN : ℕ
 KIND-UNKNOWN = 0

@@ -13,7 +13,7 @@ use Rattle.rules.specs.declared.call.Answer as declared-answer
 use Rattle.rules.specs.declared.call.Answered as declared-answered
 pub use Rattle.rules.specs.Numbers.{MAX-ROWS, MAX-ENTRIES, CROWN, ENTRY, WORD, MAX-OPEN, MAX-REDIRECTS, MAX-RANK, MAX-U64, DONE, NO-KEY, KEYS-FULL}
 pub use Rattle.rules.specs.Numbers.{LOG-FULL, OWNER-CLASH, TOO-MUCH, NOT-INNERMOST, TOO-DEEP, BROKEN-TABLE, BAD-STATE, SERIALS-SPENT, NOT-OPEN}
-pub use Rattle.rules.specs.Numbers.{KIND-UNKNOWN, KIND-NEW, KIND-SET}
+pub use Rattle.rules.specs.Numbers.{BAD-JOURNAL, NO-ROOM, KIND-UNKNOWN, KIND-NEW, KIND-SET}
 pub use Rattle.rules.specs.Lent.{Rows, Log, entries, Table, ownerOf, numberOf, value, none, row, valueOf, rowAt, putCrown, putRow, amountOf, lowOf}
 pub use Rattle.rules.specs.Lent.{highOf, oldAt, putOld, kindOf, keyOf, oldOf, entryAt, putEntry, mark, markAt, fresh, head, headOf, withHead, table}
 pub use Rattle.rules.specs.Wide.{WideRows, WideLog}

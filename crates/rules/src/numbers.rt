@@ -45,6 +45,11 @@ pub const SERIALS_SPENT: u32 = 10;
 
 pub const NOT_OPEN: u32 = 11;
 
+// Document 02, Q-1.
+pub const BAD_JOURNAL: u32 = 12;
+
+pub const NO_ROOM: u32 = 16;
+
 // The kinds of log entries. Every other number is of no known kind.
 pub const KIND_UNKNOWN: u32 = 0;
 

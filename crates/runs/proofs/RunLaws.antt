@@ -1,6 +1,6 @@
 -- A list of calls on lent numbers is a run of the rules' step. Assumes nothing.
 use Rattle.kit.specs.Names.{_≡_, refl, sym, ap, _∙_, subst, Bool, true, false, cond, _&&_, _||_, List, [], _++_, ℕ, zero, suc, _+_, _-_, _*_, _≤_, _<_, length, drop, sets, ltb, drop-length, arith}
-use Rattle.rules.specs.Rules.{Answer, Call, Head, Sought, State, Table, table, headOf, BAD-STATE, refusal, answerNumbers, Outcome, outcome, sizesOf, stray, bad}
+use Rattle.rules.specs.Rules.{Answer, Call, Head, Sought, State, Table, table, headOf, answerNumbers, Outcome, outcome, sizesOf, stray, bad}
 use Rattle.rules.specs.Rules.{badTable, step}
 use Rattle.rules.specs.declared.call.Call.the-variants.{Rollback, Keys}
 use Rattle.rules.specs.declared.table.Sought.the-variants.{Missing}
@@ -103,10 +103,6 @@ module _ (h₀ h : Host) (l : List ℕ) (at to : ℕ) (g : Going h₀ h l at to)
       rw (← t, ← a, b .0, b .1)
 
 -- ---- with the head by value
-
-pub refused-bad : (t : Table) (c : Call) → badTable t ≡ true → outcome (refusal BAD-STATE) t ≡ step t c
-unfolding step
-refused-bad t c e = rw e
 
 -- All that is lent, with the head that is at hand written.
 abbrev pub written-host : Head → Host → Host

@@ -40,7 +40,7 @@ fn sought_at(numbers: &[u32], serials: &[u64], calls: &[u64], at: usize, head: H
 }
 
 // The call at a place of a list. Whether the table is bad is known from the call before, which is quicker than to find it out.
-fn next(
+pub fn next(
     numbers: &mut [u32],
     serials: &mut [u64],
     parents: &mut [u32],

@@ -2,7 +2,7 @@
 use Rattle.kit.specs.Names.{_≡_, sym, _∙_, true, arith, not-true, not-false, needs}
 use Rattle.coding.specs.Coding.{Listed, callList, isListed}
 use Rattle.coding.proofs.CodingLaws.{four-each}
-use Rattle.admit.proofs.AdmitLaws.{no-numbers, no-serials, no-calls, no-room, with-room}
+use Rattle.admit.proofs.AdmitLaws.{no-numbers, no-serials, no-calls, no-answers, with-room}
 use Rattle.admit.proofs.tests.test_calls.Statement.{statement}
 use Rattle.admit.proofs.tests.test_calls.Tie as tie
 
@@ -46,7 +46,7 @@ returns-4 c =
     let f = g .before in
     let e = start f in
     let a = e .args in
-    no-room (a .numbers) (a .serials) (listed e) (a .answers) (f .if1 .left) (g .if2 .left) (are-calls t)
+    no-answers (a .numbers) (a .serials) (listed e) (a .answers) (f .if1 .left) (g .if2 .left) (are-calls t)
     (omega (arith, four-each (a .calls .now) (are-calls t), c .if4 .taken))
 
 returns-5 : tie.Need-returns-5

@@ -3,7 +3,7 @@ use Rattle.rules.specs.Rules.{Sought, State, Table, tableNow, Outcome, step}
 use Rattle.undo_log.specs.Settled.{markFor}
 use Rattle.layout.specs.State.{stateBy}
 use Rattle.coding.specs.Coding.{callAt}
-use Rattle.runs.proofs.RunLaws.{refused-bad}
+use Rattle.bad_state.proofs.GoodLaws.{refused-bad}
 use Rattle.runs.proofs.list.next.Statement.{statement}
 use Rattle.runs.proofs.list.next.Tie as tie
 

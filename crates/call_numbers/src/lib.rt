@@ -1,0 +1,2 @@
+// A call as the host's four numbers.
+pub mod numbers;

@@ -1,0 +1,2 @@
+-- What is known of a journal.
+pub mod Counted

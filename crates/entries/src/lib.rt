@@ -1,0 +1,2 @@
+// The journal's entries in their bytes.
+pub mod entries;

@@ -1,0 +1,2 @@
+-- An entry of the journal as a call.
+pub mod Ready

@@ -1,0 +1,2 @@
+// An entry of a valid journal, read.
+pub mod read;

@@ -1,0 +1,5 @@
+pub mod ByteLaws
+pub mod ReadLaws
+pub mod AppendLaws
+pub mod ForwardLaws
+pub mod Examples

@@ -1,0 +1,2 @@
+// What a line of a recorded list asks for.
+pub mod asked;

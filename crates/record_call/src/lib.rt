@@ -1,0 +1,2 @@
+// A single call, carried out and written to a journal.
+pub mod call;

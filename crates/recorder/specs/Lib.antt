@@ -1,0 +1,2 @@
+-- What the exported functions leave that write a journal or judge one.
+pub mod Journals

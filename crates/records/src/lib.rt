@@ -1,0 +1,1 @@
+// Theorems alone: what is promised is in specs/, why it holds in proofs/.

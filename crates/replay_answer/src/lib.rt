@@ -1,0 +1,2 @@
+// What the verb replay prints.
+pub mod answer;

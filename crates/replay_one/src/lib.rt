@@ -1,0 +1,2 @@
+// An entry of the journal carried out.
+pub mod one;

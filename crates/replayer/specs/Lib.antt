@@ -1,0 +1,2 @@
+-- What an exported replay leaves.
+pub mod Replaying

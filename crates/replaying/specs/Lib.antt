@@ -1,0 +1,2 @@
+-- How a contract names what replay comes to.
+pub mod Ended

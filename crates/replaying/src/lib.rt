@@ -1,0 +1,2 @@
+// A journal replayed.
+pub mod replay;

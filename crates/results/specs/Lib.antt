@@ -1,0 +1,2 @@
+-- What the exported functions of the journal answer.
+pub mod Results

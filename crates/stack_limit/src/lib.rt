@@ -1,0 +1,2 @@
+// How much stack the program has.
+pub mod limit;
