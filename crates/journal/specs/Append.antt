@@ -40,8 +40,8 @@ segment number entries =
 abbrev pub declined : ℕ → Bytes → ℕ → Appended
 declined n buffer used = record { no = n; used = used; buffer = buffer }
 
--- "A used length above the lent buffer is 12". What is appended is one segment, so bytes that are not those of 1 to 2048 entries are 12
--- too, also where they hold trailers of their own.
+-- A used length above the lent buffer is 12 (docs/DECISIONS.md). What is appended is one segment, so bytes that are not those of 1 to
+-- 2048 entries are 12 too, also where they hold trailers of their own.
 abbrev pub append : Bytes → ℕ → Bytes → Appended
 append buffer used entries =
     let before = take used buffer in

@@ -43,7 +43,7 @@ sealed bs k =
     book (sets bs (nextPlace k) (trailerBytes (trailerOf (k .segments) (k .waiting))))
     (known (nextPlace k + TRAILER-BYTES) (suc (k .segments)) (k .«open») 0)
 
--- "every 2,048 of them are a segment by themselves"
+-- Every 2,048 of them are a segment by themselves.
 abbrev pub sealedIfFull : Bytes → Known → Book
 sealedIfFull bs k = cond (ltb (k .waiting) SEGMENT) (book bs k) (sealed bs k)
 

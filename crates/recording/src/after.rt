@@ -9,7 +9,7 @@ use journal::entry::SEGMENT;
 use journal::known::Known;
 use write_entry::entry::put_entry;
 
-// "every 2,048 of them are a segment by themselves"
+// Every 2,048 of them are a segment by themselves.
 fn seal_if_full(journal: &mut [u8], known: Known) -> Known
     requires { ⌜ Sealable known (length (now journal)) ⌝ }
     ensures { λ r. ⌜ book (now (journal .exit)) r ≡ sealedIfFull (now (journal .entry)) known ⌝ }
