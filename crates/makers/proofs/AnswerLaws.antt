@@ -1,5 +1,6 @@
 -- An answer's fields as numbers. Assumes nothing.
-use Rattle.kit.specs.Names.{◌≡◌, refl, Bool, true, false, [], ◌∷◌, ℕ}
+use Rattle.std.specs.Prelude.{◌≡◌, ◌∷◌}
+use Rattle.kit.specs.Names.{refl, Bool, true, false, [], ℕ}
 use mir.Val.{bool_byte}
 use Rattle.rules.specs.Rules.{Answer, number_of, bit, answer_numbers}
 

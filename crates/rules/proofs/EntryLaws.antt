@@ -1,5 +1,6 @@
 -- Laws of entries: what is put is read back. Assumes nothing.
-use Rattle.kit.specs.Names.{◌≡◌, refl, ◌∙◌, [], ◌∷◌, ℕ, ◌+◌, ◌*◌, ◌≤◌, ◌<◌, length, length-set, get_or, set, get_or-set_same, get_or-set_other, arith, eq-eqb, ne_eqb}
+use Rattle.std.specs.Prelude.{◌≡◌, ◌∷◌, ◌+◌, ◌*◌, ◌≤◌, ◌<◌}
+use Rattle.kit.specs.Names.{refl, ◌∙◌, [], ℕ, length, length-set, get_or, set, get_or-set_same, get_or-set_other, arith, eq-eqb, ne_eqb}
 use Rattle.rules.specs.declared.table.Owner.TheVariants.{Tenant}
 use Rattle.rules.specs.declared.table.UndoLog.TheVariants.{NewElem, SetElem}
 use Rattle.rules.specs.Rules.{ENTRY, KIND-NEW, KIND-SET, Rows, Log, amount_of, low_of, high_of, owner_of, number_of, value, row, row_at, entry_at, put_entry}

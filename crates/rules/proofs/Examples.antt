@@ -1,5 +1,6 @@
 -- Document 01, "Examples": those marked *, 1 to 13, as one statement over a list of calls and what is expected afterwards.
-use Rattle.kit.specs.Names.{◌≡◌, refl, List, [], ◌∷◌, ◌++◌, map, ℕ, ◌*◌, replicate}
+use Rattle.std.specs.Prelude.{◌≡◌, ◌∷◌, ◌++◌, ◌*◌}
+use Rattle.kit.specs.Names.{refl, List, [], map, ℕ, replicate}
 use Rattle.rules.specs.Rules.{Call, CROWN, ENTRY, Rows, Log, table, fresh, number_of, row_at, kind_of, key_of, old_of, entry_at, merge, path, writes, puts}
 use Rattle.rules.specs.Rules.{refusal, rewrites, seek, newest_first, undoable, undo, Outcome, outcome, bad, call, step}
 use Rattle.rules.specs.declared.call.Call.TheVariants.{New, Find, Join, Post, Snapshot, Rollback, Commit}

@@ -1,5 +1,6 @@
 -- The laws of the merge. All else that is proved of it cites these, so that another merge changes this file alone. Assumes nothing.
-use Rattle.kit.specs.Names.{◌≡◌, refl, sym, ap, ap₂, ◌∙◌, subst, Bool, true, false, cond, ◌≢◌, ◌↔◌, ◌⊎◌, inl, inr, ℕ, ◌+◌, ◌≤◌, ◌<◌, ltb, arith, ℕ_discrete, eq-eqb, ne_eqb, ltb-true, ltb-false}
+use Rattle.std.specs.Prelude.{◌≡◌, ◌≢◌, ◌↔◌, ◌⊎◌, ◌+◌, ◌≤◌, ◌<◌}
+use Rattle.kit.specs.Names.{refl, sym, ap, ap₂, ◌∙◌, subst, Bool, true, false, cond, inl, inr, ℕ, ltb, arith, ℕ_discrete, eq-eqb, ne_eqb, ltb-true, ltb-false}
 use Rattle.rules.specs.Rules.{Owner, Value, Merged, MAX-U64, value, summed, merge_owned, merge}
 use Rattle.rules.specs.declared.table.Owner.TheVariants.{Nobody, Tenant}
 use Rattle.rules.specs.declared.table.Merged.TheVariants.{Clash, TooMuch, Both}

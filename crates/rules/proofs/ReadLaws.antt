@@ -1,5 +1,6 @@
 -- What is read after a row or an entry is written: at its place what was written, elsewhere what was there. Assumes nothing.
-use Rattle.kit.specs.Names.{◌≡◌, refl, ap, ◌∙◌, List, [], ◌∷◌, ◌≢◌, ℕ, ◌+◌, ◌*◌, ◌<◌, length, length-set, get_or, set, lit<, get_or-set_same, get_or-set_other, arith, ℕ_discrete, eq-eqb, ne_eqb}
+use Rattle.std.specs.Prelude.{◌≡◌, ◌∷◌, ◌≢◌, ◌+◌, ◌*◌, ◌<◌}
+use Rattle.kit.specs.Names.{refl, ap, ◌∙◌, List, [], ℕ, length, length-set, get_or, set, lit<, get_or-set_same, get_or-set_other, arith, ℕ_discrete, eq-eqb, ne_eqb}
 use Rattle.rules.specs.Rules.{Owner, Row, UndoLog, CROWN, ENTRY, Rows, Log, owner_of, number_of, value, row, row_at, put_crown, put_row, low_of, high_of, kind_of}
 use Rattle.rules.specs.Rules.{key_of, old_of, entry_at, put_entry, WideRows, WideLog}
 use Rattle.rules.specs.declared.table.Owner.TheVariants.{Nobody, Tenant}

@@ -1,5 +1,6 @@
 -- Laws of rows: what a write leaves, part by part. Assumes nothing.
-use Rattle.kit.specs.Names.{◌≡◌, refl, List, [], ◌∷◌, ℕ, ◌+◌, ◌*◌, set, get_or, set-get_or, set-set, set_comm, arith, ℕ_discrete, ne_eqb}
+use Rattle.std.specs.Prelude.{◌≡◌, ◌∷◌, ◌+◌, ◌*◌}
+use Rattle.kit.specs.Names.{refl, List, [], ℕ, set, get_or, set-get_or, set-set, set_comm, arith, ℕ_discrete, ne_eqb}
 use Rattle.rules.specs.Rules.{Row, Value, CROWN, Rows, amount_of, low_of, high_of, owner_of, number_of, row_at, put_crown, put_row, Memory, Write, redirect}
 use Rattle.rules.specs.Rules.{crown, place, edit, write, writes, put, puts, reversed}
 use Rattle.rules.specs.declared.table.UndoLog.TheVariants.{SetElem}

@@ -1,5 +1,6 @@
 -- Document 01, what a call answers: a refusal's answer, what stands in its place on DONE, and the state that is handed back.
-use Rattle.kit.specs.Names.{Bool, true, false, cond, List, [], ◌∷◌, ℕ}
+use Rattle.std.specs.Prelude.{◌∷◌}
+use Rattle.kit.specs.Names.{Bool, true, false, cond, List, [], ℕ}
 use Rattle.rules.specs.declared.call.Answer.{Answer}
 use Rattle.rules.specs.declared.call.Answered.{Answered}
 use Rattle.rules.specs.declared.table.State.{State}

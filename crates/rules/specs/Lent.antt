@@ -1,5 +1,6 @@
 -- Document 01, "The meter's table": rows, log and state, as numbers that the host lends and hands on.
-use Rattle.kit.specs.Names.{cond, List, ℕ, ◌+◌, ◌*◌, ◌%◌, ◌/◌, length, get_or, set, replicate, eqb}
+use Rattle.std.specs.Prelude.{◌+◌, ◌*◌, ◌%◌, ◌/◌}
+use Rattle.kit.specs.Names.{cond, List, ℕ, length, get_or, set, replicate, eqb}
 use Rattle.rules.specs.declared.table.Owner.{Owner}
 use Rattle.rules.specs.declared.table.Owner.TheVariants.{Nobody, Tenant}
 use Rattle.rules.specs.declared.table.Value.{Value}

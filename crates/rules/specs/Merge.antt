@@ -1,5 +1,6 @@
 -- Document 01, "Rules of the rows", Merge: "two different named owners clash. One named owner wins over none. Amounts add exactly."
-use Rattle.kit.specs.Names.{cond, ℕ, ◌+◌, eqb, ltb}
+use Rattle.std.specs.Prelude.{◌+◌}
+use Rattle.kit.specs.Names.{cond, ℕ, eqb, ltb}
 use Rattle.rules.specs.declared.table.Owner.{Owner}
 use Rattle.rules.specs.declared.table.Owner.TheVariants.{Nobody, Tenant}
 use Rattle.rules.specs.declared.table.Value.{Value}

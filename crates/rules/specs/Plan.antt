@@ -1,5 +1,6 @@
 -- Document 01, "Rules of the rows": what a call on rows would answer and write, were there room in the log.
-use Rattle.kit.specs.Names.{Bool, false, cond, ◌||◌, List, [], ◌∷◌, ◌++◌, ℕ, ◌+◌, eqb, ltb}
+use Rattle.std.specs.Prelude.{◌||◌, ◌∷◌, ◌++◌, ◌+◌}
+use Rattle.kit.specs.Names.{Bool, false, cond, List, [], ℕ, eqb, ltb}
 use Rattle.rules.specs.declared.call.Answer.{Answer}
 use Rattle.rules.specs.declared.table.Value.{Value}
 use Rattle.rules.specs.declared.table.Merged.{Merged}

@@ -1,5 +1,6 @@
 -- Document 01, "Numbers of refusal": BAD_STATE over all that is lent, and what a refusal leaves.
-use Rattle.kit.specs.Names.{Bool, true, false, cond, not, List, [], ◌∷◌, ℕ, ◌*◌, ◌%◌, ◌/◌, length, eqb, ltb}
+use Rattle.std.specs.Prelude.{◌∷◌, ◌*◌, ◌%◌, ◌/◌}
+use Rattle.kit.specs.Names.{Bool, true, false, cond, not, List, [], ℕ, length, eqb, ltb}
 use Rattle.rules.specs.declared.call.Answer.{Answer}
 use Rattle.rules.specs.declared.table.Head.{Head}
 use Rattle.rules.specs.Numbers.{LOG-FULL, MAX-ROWS, MAX-ENTRIES, MAX-OPEN, CROWN, ENTRY}

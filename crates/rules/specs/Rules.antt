@@ -34,7 +34,7 @@ pub use Rattle.rules.specs.Refusal.{Outcome, outcome, refused, refuse, carry, Si
 unfoldable pub use Rattle.rules.specs.Refusal.{bad}
 pub use Rattle.rules.specs.Step.{not_live, new, live, one, two, resting, rollback}
 unfoldable pub use Rattle.rules.specs.Step.{call, step}
-pub use Rattle.rules.specs.Contract.{Slice, BothEnds, rows_now, memory_now, table_now, rows_lent, log_lent, memory_lent, table_lent, outcome_of}
+pub use Rattle.rules.specs.Contract.{rows_lent, memory_lent, table_lent, outcome_of}
 
 abbrev pub Owner : Type 0
 Owner = declared_owner.Owner

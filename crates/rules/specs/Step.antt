@@ -1,5 +1,6 @@
 -- Document 01, call by call: the order of refusals is "9, then 1 (first key, then second), 6 or 11, 7, 10, 2, 8, 3, 4, 5."
-use Rattle.kit.specs.Names.{Bool, not, ◌||◌, ℕ, ◌+◌, length, eqb, leb}
+use Rattle.std.specs.Prelude.{◌||◌, ◌+◌}
+use Rattle.kit.specs.Names.{Bool, not, ℕ, length, eqb, leb}
 use Rattle.rules.specs.declared.call.Call.{Call}
 use Rattle.rules.specs.declared.call.Call.TheVariants.{New, Len, Find, Unioned, Join, Post, Probe, ProbeKey, TryProbe, Snapshot, Rollback, Commit, Keys, Actions, Changes}
 use Rattle.rules.specs.declared.call.Answered.{Answered}

@@ -1,5 +1,6 @@
 -- Document 01, "Rules of the log and the tokens": marks, what is undone, and what lies since a snapshot.
-use Rattle.kit.specs.Names.{Bool, true, false, cond, ◌&&◌, ◌||◌, List, [], ◌∷◌, ℕ, zero, suc, ◌+◌, ◌-◌, ◌*◌, set, take, drop, eqb, ltb}
+use Rattle.std.specs.Prelude.{◌&&◌, ◌||◌, ◌∷◌, ◌+◌, ◌-◌, ◌*◌}
+use Rattle.kit.specs.Names.{Bool, true, false, cond, List, [], ℕ, zero, suc, set, take, drop, eqb, ltb}
 use Rattle.rules.specs.declared.table.UndoLog.{UndoLog}
 use Rattle.rules.specs.declared.table.UndoLog.TheVariants.{NewElem, SetElem, Unknown}
 use Rattle.rules.specs.declared.table.Mark.{Mark}

@@ -1,5 +1,6 @@
 -- Document 01, "Rules of the rows", Walk: "follow parents to the root."
-use Rattle.kit.specs.Names.{cond, List, [], ◌∷◌, ℕ, zero, suc, length, get_or, eqb, ltb}
+use Rattle.std.specs.Prelude.{◌∷◌}
+use Rattle.kit.specs.Names.{cond, List, [], ℕ, zero, suc, length, get_or, eqb, ltb}
 
 -- Where a walk leads: to a root, past the rows that it followed a redirect from, its own key's first.
 -- BROKEN_TABLE: "a walk meets a parent not below the count, or is at no root after 16 redirects".

@@ -1,5 +1,6 @@
 -- Lent parts that fit one another: room for so many rows, and for so many entries.
-use Rattle.kit.specs.Names.{◌≡◌, ℕ, ◌*◌, length}
+use Rattle.std.specs.Prelude.{◌≡◌, ◌*◌}
+use Rattle.kit.specs.Names.{ℕ, length}
 use Rattle.rules.specs.Numbers.{CROWN, ENTRY}
 use Rattle.rules.specs.Lent.{Rows, Log}
 

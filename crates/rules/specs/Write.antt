@@ -1,5 +1,6 @@
 -- What is written to rows, and what is logged of it: document 01, "Rules of the rows" and "Rules of the log and the tokens".
-use Rattle.kit.specs.Names.{Bool, false, cond, List, [], ◌∷◌, ℕ, ◌+◌, ◌-◌, eqb, ltb}
+use Rattle.std.specs.Prelude.{◌∷◌, ◌+◌, ◌-◌}
+use Rattle.kit.specs.Names.{Bool, false, cond, List, [], ℕ, eqb, ltb}
 use Rattle.rules.specs.declared.table.Value.{Value}
 use Rattle.rules.specs.declared.table.Row.{Row}
 use Rattle.rules.specs.declared.table.UndoLog.{UndoLog}

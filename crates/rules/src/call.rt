@@ -1,7 +1,7 @@
 use crate::table::{Owner, State};
 
 // A call of the table. An owner in a call is a number, and 0 means none.
-#[derive(Drop)]
+#[derive(Clone, Copy)]
 pub enum Call {
     New(u32, u64),
     Len,
@@ -21,7 +21,7 @@ pub enum Call {
 }
 
 // What every call answers. What a call has nothing to say of is as in a refusal.
-#[derive(Drop)]
+#[derive(Clone, Copy)]
 pub struct Answer {
     pub no: u32,
     pub key: u32,
@@ -35,7 +35,7 @@ pub struct Answer {
 }
 
 // An answer, and the state to lend to the next call.
-#[derive(Drop)]
+#[derive(Clone, Copy)]
 pub struct Answered {
     pub answer: Answer,
     pub state: State,

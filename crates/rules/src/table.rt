@@ -1,19 +1,19 @@
 // Whom a group is charged to.
-#[derive(Drop)]
+#[derive(Clone, Copy)]
 pub enum Owner {
     Nobody,
     Tenant(u32),
 }
 
 // What a root carries: ena's `UnifyValue`.
-#[derive(Drop)]
+#[derive(Clone, Copy)]
 pub struct Value {
     pub owner: Owner,
     pub amount: u64,
 }
 
 // What a merge of two values gives.
-#[derive(Drop)]
+#[derive(Clone, Copy)]
 pub enum Merged {
     Clash,
     TooMuch,
@@ -21,7 +21,7 @@ pub enum Merged {
 }
 
 // A row: ena's `VarValue`. Where the parent is the row itself it is a root.
-#[derive(Drop)]
+#[derive(Clone, Copy)]
 pub struct Row {
     pub parent: u32,
     pub rank: u32,
@@ -31,7 +31,7 @@ pub struct Row {
 
 // An entry of the undo log: a new key, or a changed row with its key and what it was.
 // `Unknown` is what an entry of no known kind reads as; it is never logged.
-#[derive(Drop)]
+#[derive(Clone, Copy)]
 pub enum UndoLog {
     NewElem(u32),
     SetElem(u32, Row),
@@ -39,7 +39,7 @@ pub enum UndoLog {
 }
 
 // What an open snapshot keeps.
-#[derive(Drop)]
+#[derive(Clone, Copy)]
 pub struct Mark {
     pub serial: u64,
     pub log_len: u32,
@@ -47,14 +47,14 @@ pub struct Mark {
 }
 
 // The mark that a token names, where it is open.
-#[derive(Drop)]
+#[derive(Clone, Copy)]
 pub enum Sought {
     Missing,
     Held(Mark),
 }
 
 // A state without its serials and marks: how many keys and entries there are, and how many snapshots are open.
-#[derive(Drop)]
+#[derive(Clone, Copy)]
 pub struct Head {
     pub count: u32,
     pub used: u32,
@@ -62,7 +62,7 @@ pub struct Head {
 }
 
 // All of a table that is not lent. `marks[0]` is the outermost snapshot's.
-#[derive(Drop)]
+#[derive(Clone, Copy)]
 pub struct State {
     pub count: u32,
     pub used: u32,

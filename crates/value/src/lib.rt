@@ -1,4 +1,6 @@
-ghost use Rattle.kit.specs.Names.{◌≡◌, ◌+◌};
+#![tactic(auto)]
+
+ghost use Rattle.std.specs.Prelude.{◌≡◌, ◌+◌};
 ghost use Rattle.rules.specs.Rules.{value_of, summed, merge};
 
 use rules::numbers::MAX_U64;
@@ -14,6 +16,7 @@ pub fn value_of(row: Row) -> Value
 }
 
 // The merge of two values: ena's `UnifyValue::unify_values`. Owners are merged before the sum is judged.
+#[tactic(auto, unfolding(rules::specs::Merge::merge))]
 pub fn unify_values(a: Value, b: Value) -> Merged
     ensures { result ≡ merge a b }
 {
