@@ -1,6 +1,3 @@
--- What the proofs of several functions use, and what a view shows.
-pub mod Shapes
-pub mod Walking
-pub mod Thin
+-- What a view shows, and that nothing else meets its contracts.
 pub mod ViewLaws
 pub mod Unique

@@ -1,6 +1,7 @@
 -- No two outcomes meet a contract of the view: of one log and one range there is one view, and what is read of it is fixed. Assumes
 -- nothing.
-use Rattle.kit.specs.Names.{◌≡◌, sym, ap, ◌∙◌, ℕ}
+use Rattle.std.specs.Prelude.{◌≡◌}
+use Rattle.kit.specs.Names.{sym, ap, ◌∙◌, ℕ}
 use Rattle.rules.specs.Rules.{UndoLog, Log, entries, entry_at, viewed}
 use Rattle.parts.specs.declared.entries.Numbers.{Numbers}
 use Rattle.extract.specs.Numbers.{lent_at}
@@ -20,7 +21,7 @@ only_one l from to v w e f =
     let q : shown v ≡ shown w = e ∙ sym f in
     record {
       logs = q;
-      lengths = λ m n a b. a ∙ ap entries q ∙ sym b;
+      lengths = λ m n a b. cc;
       values = λ i x y a b. a ∙ ap {B = UndoLog} (λ (z : Log). entry_at z i) q ∙ sym b;
       numbers = λ i x y a b. a ∙ ap {B = Numbers} (λ (z : Log). lent_at z i) q ∙ sym b;
     }

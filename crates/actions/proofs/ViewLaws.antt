@@ -1,6 +1,7 @@
 -- What a view shows: as many entries as its range has places, each the log's own, `Unknown` past them, and nothing where a call is
 -- refused. Assumes nothing.
-use Rattle.kit.specs.Names.{◌≡◌, refl, ap, ◌∙◌, Bool, true, false, List, [], ◌∷◌, ℕ, zero, suc, ◌+◌, ◌-◌, ◌*◌, ◌<◌, ◌≤◌, length, get_or, take, drop, length-drop, arith}
+use Rattle.std.specs.Prelude.{◌≡◌, ◌∷◌, ◌+◌, ◌-◌, ◌*◌, ◌<◌, ◌≤◌}
+use Rattle.kit.specs.Names.{refl, ap, ◌∙◌, Bool, true, false, List, [], ℕ, zero, suc, length, get_or, take, drop, length-drop, arith}
 use Rattle.rules.specs.Rules.{Answer, Sought, State, UndoLog, BROKEN-TABLE, ENTRY, Log, Table, entries, entry_at, head_of, refusal, range, answered, refuse_state, seek}
 use Rattle.rules.specs.Rules.{unfit, asked, viewed, actions_view, outcome, sizes_of, bad_table, call, step}
 use Rattle.rules.specs.declared.call.Call.TheVariants.{Actions}

@@ -1,12 +1,12 @@
 -- What a view shows.
-use Rattle.kit.specs.Names.{ℕ, now}
+use Rattle.kit.specs.Names.{ℕ}
 use Rattle.rules.specs.declared.call.Call.TheVariants.{Actions as AskActions}
 use Rattle.rules.specs.Rules.{Log, Table, entries, actions_view, step}
 use Rattle.actions.specs.declared.view.Actions.{Actions}
 
 -- The part of the log that a view refers to.
 abbrev pub shown : Actions → Log
-shown v = now v.log
+shown v = v.log.now
 
 -- How many entries it has.
 abbrev pub count_of : Actions → ℕ

@@ -1,5 +1,5 @@
 ghost use Rattle.std.specs.Prelude.{◌≡◌};
-ghost use Rattle.rules.specs.Rules.{entry_at, viewed, log_lent};
+ghost use Rattle.rules.specs.Rules.{entry_at, viewed};
 ghost use Rattle.extract.specs.Numbers.{lent_at};
 ghost use Rattle.actions.specs.View.{shown, count_of};
 
@@ -8,15 +8,15 @@ use rules::numbers::ENTRY;
 use rules::table::UndoLog;
 
 // The entries since a snapshot: the log's part from the mark's log length to the used end.
-#[derive(Drop)]
+#[derive(Clone, Copy)]
 pub struct Actions<'a> {
     pub log: &'a [u32],
 }
 
 // The part of a log from an entry to an entry, as a view: of the range that `Actions` answers for a token, the entries since its
-// snapshot (`Tokens.actionsView`); of a refusal's, nothing.
+// snapshot (`Tokens.actions_view`); of a refusal's, nothing.
 pub fn actions_between<'a>(log: &'a [u32], from: u32, to: u32) -> Actions<'a>
-    ensures* { let l = log_lent log in λ r. ⌜ shown r ≡ viewed l.entry from to ⌝ }
+    ensures { shown result ≡ viewed log.now from to }
 {
     Actions {
         log: extract::log::part(log, from, to),
@@ -44,17 +44,16 @@ pub fn lent_entry<'a>(v: Actions<'a>, i: usize) -> Numbers
     extract::log::lent_of(v.log, i)
 }
 
-// The numbers of entry `i` of a part of a log, read through the view. Its parameters are a slice and numbers, so a caller needs no
-// walk.
+// The numbers of entry `i` of a part of a log, read through the view.
 pub fn lent_action_at<'a>(log: &'a [u32], from: u32, to: u32, i: usize) -> Numbers
-    ensures* { let l = log_lent log in λ r. ⌜ r ≡ lent_at (viewed l.entry from to) i ⌝ }
+    ensures { result ≡ lent_at (viewed log.now from to) i }
 {
     lent_entry(actions_between(log, from, to), i)
 }
 
 // That entry by value.
 pub fn action_at<'a>(log: &'a [u32], from: u32, to: u32, i: usize) -> UndoLog
-    ensures* { let l = log_lent log in λ r. ⌜ r ≡ entry_at (viewed l.entry from to) i ⌝ }
+    ensures { result ≡ entry_at (viewed log.now from to) i }
 {
     extract::log::action_of(lent_action_at(log, from, to, i))
 }

@@ -1,11 +1,12 @@
 -- A table that is not bad stays so, whatever call is made on it, but for one thing. Assumes nothing.
-use Rattle.kit.specs.Names.{◌≡◌, refl, sym, ap, ◌∙◌, subst⁻¹, Bool, true, false, cond, not, ◌||◌, List, [], ◌∷◌, ℕ, suc, ◌+◌, ◌-◌, ◌≤◌, zero-le}
+use Rattle.std.specs.Prelude.{◌≡◌, ◌||◌, ◌∷◌, ◌+◌, ◌-◌, ◌≤◌}
+use Rattle.kit.specs.Names.{refl, sym, ap, ◌∙◌, subst⁻¹, Bool, true, false, cond, not, List, [], ℕ, suc, zero-le}
 use Rattle.kit.specs.Names.{length, length-set, eqb, ltb, arith, ℕ_discrete, eq-eqb, ne_eqb, ltb-false, eqb-false}
 use Rattle.rules.specs.Rules.{Answer, Answered, Call, Mark, Row, Sought, State, UndoLog, Value, KEYS-FULL, LOG-FULL, NO-KEY, NOT-INNERMOST, TOO-DEEP, BROKEN-TABLE}
 use Rattle.rules.specs.Rules.{SERIALS-SPENT, MAX-OPEN, MAX-U64, Rows, Log, Table, entries, row, row_at, put_row, put_entry, value, owner_of, head_of, range, said}
 use Rattle.rules.specs.Rules.{refuse_state, Memory, Write, place, edit, logged, put, puts, memory_of, full, Plan, Walked, walk, walk_both, find_on, unioned_on, join_on}
 use Rattle.rules.specs.Rules.{post_on, probe_on, probe_key_on, try_probe, innermost, not_innermost, unfit, stranded, seek, asked, ask, snapshot, commit, len, since}
-use Rattle.rules.specs.Rules.{undoable, reversed, undo, Outcome, refuse, carry, Sizes, sizes_of, stray, bad, bad_table, not_live, new, live, one, two, resting}
+use Rattle.rules.specs.Rules.{undoable, reversed, undo, Outcome, refuse, carry, Sizes, sizes_of, stray, bad_table, not_live, new, live, one, two, resting}
 use Rattle.rules.specs.Rules.{rollback, call, step, outcome, refusal, BAD-STATE}
 use Rattle.rules.specs.declared.call.Call.TheVariants.{New, Len, Find, Unioned, Join, Post, Probe, ProbeKey, TryProbe, Snapshot, Rollback, Commit, Keys, Actions, Changes}
 use Rattle.rules.specs.declared.table.Sought.TheVariants.{Missing, Held}

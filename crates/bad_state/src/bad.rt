@@ -1,4 +1,4 @@
-ghost use Rattle.kit.specs.Names.{◌≡◌, ◌||◌};
+ghost use Rattle.std.specs.Prelude.{◌≡◌, ◌||◌};
 ghost use Rattle.rules.specs.Rules.{BAD-STATE, refusal, sizes, bad, stray};
 ghost use Rattle.undo_log.specs.Settled.{settled};
 
@@ -8,6 +8,7 @@ use rules::table::Head;
 use undo_log::tokens::Settled;
 
 // Whether the head, or the lengths of the four lent parts, are no table's: BAD_STATE.
+#[tactic(auto, using(rules::proofs::StateLaws::not_good, rules::proofs::StateLaws::roomy_bad))]
 pub fn bad_state(head: Head, parents: usize, crowns: usize, amounts: usize, log: usize) -> bool
     ensures { result ≡ bad (sizes parents crowns amounts log) head }
 {

@@ -1,6 +1,6 @@
 // What a call comes to, judged over `&` parts before anything is written.
-ghost use Rattle.kit.specs.Names.{◌≡◌, false};
-ghost use Rattle.rules.specs.Rules.{rows_now, rows_lent, log_lent, sizes_of, bad};
+ghost use Rattle.std.specs.Prelude.{◌≡◌, false};
+ghost use Rattle.rules.specs.Rules.{rows_lent, sizes_of, bad};
 ghost use Rattle.decisions.specs.Decided.{Decided};
 
 use crate::sort::sort;
@@ -24,10 +24,9 @@ pub fn decide(
     sought: Sought,
     call: Call,
 ) -> Decision
-    requires { bad (sizes_of (rows_now parents crowns amounts) log.now) head ≡ false }
-    ensures* { let rs = rows_lent parents crowns amounts in
-        let l = log_lent log in
-        λ r. ⌜ Decided rs.entry l.entry head last sought call r ⌝ }
+    requires { bad (sizes_of (rows_lent parents.now crowns.now amounts.now) log.now) head ≡ false }
+    ensures { let rs = rows_lent parents.now crowns.now amounts.now in
+        Decided rs log.now head last sought call result }
 {
     let sorted = sort(call);
     match sorted {

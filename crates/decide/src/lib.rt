@@ -1,3 +1,5 @@
 // Any call decided over `&` parts, a head and the mark in question: its answer and what is to be written. Nothing here writes.
+#![tactic(auto)]
+
 pub mod any;
 mod sort;

@@ -1,6 +1,7 @@
 -- What is decided of a call is the rules' step: refusals, verdicts, new keys, rollbacks. Assumes nothing.
-use Rattle.kit.specs.Names.{◌≡◌, refl, ap, sym, ◌∙◌, true, false, List, [], ℕ, ◌+◌, length, arith}
-use Rattle.rules.specs.Rules.{Answer, Answered, Call, Head, Mark, Row, Sought, State, BAD-STATE, Rows, Log, table, entries, row, head, refusal, Write, memory}
+use Rattle.std.specs.Prelude.{◌≡◌, ◌+◌}
+use Rattle.kit.specs.Names.{refl, ap, sym, ◌∙◌, true, false, List, [], ℕ, length, arith}
+use Rattle.rules.specs.Rules.{Answer, Answered, Call, Head, Mark, Sought, State, BAD-STATE, Rows, Log, table, entries, head, refusal, Write, memory}
 use Rattle.rules.specs.Rules.{with_memory, puts, outcome, sizes_of, bad, resting, call, step}
 use Rattle.undo_log.specs.declared.tokens.HeadCall.{HeadCall}
 use Rattle.undo_log.specs.declared.tokens.HeadCall.TheVariants as head_call_case

@@ -1,5 +1,6 @@
 -- A verdict that fits the log: what it comes to is what the rules make of its plan, and there is room for it. Assumes nothing.
-use Rattle.kit.specs.Names.{◌≡◌, refl, ap, sym, ◌∙◌, Bool, true, false, cond, List, [], ℕ, ◌+◌, ◌-◌, ◌*◌, ◌≤◌, length, length-append, eqb, ltb, arith, le-ltb, ne_eqb, ltb-false}
+use Rattle.std.specs.Prelude.{◌≡◌, ◌+◌, ◌-◌, ◌*◌, ◌≤◌}
+use Rattle.kit.specs.Names.{refl, ap, sym, ◌∙◌, Bool, true, false, cond, List, [], ℕ, length, length-append, eqb, ltb, arith, le-ltb, ne_eqb, ltb-false}
 use Rattle.rules.specs.Rules.{Answer, Head, LOG-FULL, ENTRY, Rows, Log, Table, entries, refusal, Write, memory, memory_of, with_memory, full, puts, plan, outcome}
 use Rattle.rules.specs.Rules.{refuse, refused, carry, sizes_of, bad}
 use Rattle.rules.proofs.StateLaws.{Good, bad_good}

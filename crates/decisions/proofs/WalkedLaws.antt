@@ -1,6 +1,7 @@
 -- The walks of a call, near or long: what the rules make of them. Assumes nothing.
-use Rattle.kit.specs.Names.{◌≡◌, refl, ap, sym, ◌∙◌, [], ℕ, zero, suc, ◌+◌, ◌≤◌, ◌<◌, arith, le-leb, lt-leb}
-use Rattle.rules.specs.Rules.{NO-KEY, Rows, Table, writes, Plan, plan, Walked, walked_on, go_on, rewrites, walk, walk_both, refused, carry, call, step}
+use Rattle.std.specs.Prelude.{◌≡◌, ◌+◌, ◌≤◌, ◌<◌}
+use Rattle.kit.specs.Names.{refl, ap, sym, ◌∙◌, [], ℕ, zero, suc, arith, le-leb, lt-leb}
+use Rattle.rules.specs.Rules.{NO-KEY, Rows, Table, writes, Plan, Walked, walked_on, go_on, rewrites, walk, walk_both, refused, carry, call}
 use Rattle.roots.specs.declared.near.Near.{Near}
 use Rattle.roots.proofs.NearLaws.{passed_near, Found}
 use Rattle.plans.specs.declared.verdict.OneCall.{OneCall}

@@ -1,5 +1,6 @@
 -- What is said of a call before and after it is written, for every state with the head, the last serial and the mark in question.
-use Rattle.kit.specs.Names.{◌≡◌, false, List, ◌++◌, ℕ, ◌+◌, length}
+use Rattle.std.specs.Prelude.{◌≡◌, ◌++◌, ◌+◌}
+use Rattle.kit.specs.Names.{false, List, ℕ, length}
 use Rattle.rules.specs.Rules.{Call, Head, Mark, Sought, State, Rows, Log, Table, table, Write, memory, memory_of, with_memory, puts, Outcome, outcome, refused}
 use Rattle.rules.specs.Rules.{sizes_of, bad, step}
 use Rattle.undo_log.specs.declared.tokens.Settled.{Settled}

@@ -1,5 +1,6 @@
 -- A decided call: what is written of it, what that leaves, and what it asks of the parts.
-use Rattle.kit.specs.Names.{ℕ, ◌-◌, ◌≤◌, length}
+use Rattle.std.specs.Prelude.{◌-◌, ◌≤◌}
+use Rattle.kit.specs.Names.{ℕ, length}
 use Rattle.rules.specs.Rules.{Head, Rows, Log, row, head, refusal, Memory, memory, push, puts, newest_first, undo}
 use Rattle.parts.specs.Bounds.{InRows, Loggable}
 use Rattle.undo_log.specs.declared.tokens.Settled.{Settled}

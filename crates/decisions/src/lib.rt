@@ -1,4 +1,6 @@
 // What is decided of a call before anything is written: its answer, and what is to be written of it.
+#![tactic(auto)]
+
 pub mod decision;
 pub mod sorted;
 pub mod todo;

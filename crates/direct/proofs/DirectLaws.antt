@@ -1,12 +1,12 @@
 -- A new key, a value without a walk and a rollback, refusal by refusal. Assumes nothing.
-use Rattle.kit.specs.Names.{◌≡◌, ap, sym, ◌∙◌, true, false, cond, List, ℕ, ◌+◌, ◌≤◌, ◌<◌, length, eqb, arith, le-leb, lt-leb, eq-eqb, ne_eqb}
+use Rattle.std.specs.Prelude.{◌≡◌, ◌+◌, ◌≤◌, ◌<◌}
+use Rattle.kit.specs.Names.{ap, sym, ◌∙◌, true, false, cond, List, ℕ, length, eqb, arith, le-leb, lt-leb, eq-eqb, ne_eqb}
 use Rattle.rules.specs.Rules.{Answer, Head, Mark, Owner, Row, Sought, State, Value, DONE, NO-KEY, KEYS-FULL, LOG-FULL, NOT-INNERMOST, BROKEN-TABLE, Rows, Log, table}
 use Rattle.rules.specs.Rules.{entries, owner_of, value, row, row_at, value_of, head, refusal, found, held, said, memory, push, puts, since, undo, rolled_back, outcome}
 use Rattle.rules.specs.Rules.{refused, sizes_of, bad, call, step}
 use Rattle.rules.specs.declared.call.Call.TheVariants.{New, TryProbe, Rollback}
 use Rattle.rules.specs.declared.table.Sought.TheVariants.{Missing, Held}
 use Rattle.parts.proofs.BoundLaws.{in_rows}
-use Rattle.undo_log.specs.declared.tokens.HeadCall.TheVariants as head_call_case
 use Rattle.undo_log.specs.Settled.{settled, state_with, latest, mark_for}
 use Rattle.undo_log.proofs.HeadLaws.{after_moved, after_kept}
 use Rattle.undo_log.proofs.MarkLaws.{mark_for_few}

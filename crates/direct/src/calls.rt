@@ -1,6 +1,6 @@
-ghost use Rattle.kit.specs.Names.{◌≡◌, false, ℕ};
+ghost use Rattle.std.specs.Prelude.{◌≡◌, false, ℕ};
 ghost use Rattle.rules.specs.declared.call.Call.TheVariants.{New, TryProbe};
-ghost use Rattle.rules.specs.Rules.{Sought, rows_now, rows_lent, log_lent, sizes_of, bad};
+ghost use Rattle.rules.specs.Rules.{Sought, rows_lent, sizes_of, bad};
 ghost use Rattle.decisions.specs.Decided.{Does};
 
 use decisions::todo::{End, Todo, refused, still};
@@ -23,10 +23,9 @@ pub fn new_key(
     owner: u32,
     amount: u64,
 ) -> Todo
-    requires { bad (sizes_of (rows_now parents crowns amounts) log.now) head ≡ false }
-    ensures* { let rs = rows_lent parents crowns amounts in
-        let l = log_lent log in
-        λ r. ⌜ ((last : ℕ) (m : Sought) → Does rs.entry l.entry head last m (New owner amount) r) ⌝ }
+    requires { bad (sizes_of (rows_lent parents.now crowns.now amounts.now) log.now) head ≡ false }
+    ensures { let rs = rows_lent parents.now crowns.now amounts.now in
+        (last : ℕ) (m : Sought) → Does rs log.now head last m (New owner amount) result }
 {
     if head.count as usize == parents.len() {
         return refused(KEYS_FULL, head);
@@ -61,10 +60,9 @@ pub fn try_probe(
     head: Head,
     key: u32,
 ) -> Todo
-    requires { bad (sizes_of (rows_now parents crowns amounts) log.now) head ≡ false }
-    ensures* { let rs = rows_lent parents crowns amounts in
-        let l = log_lent log in
-        λ r. ⌜ ((last : ℕ) (m : Sought) → Does rs.entry l.entry head last m (TryProbe key) r) ⌝ }
+    requires { bad (sizes_of (rows_lent parents.now crowns.now amounts.now) log.now) head ≡ false }
+    ensures { let rs = rows_lent parents.now crowns.now amounts.now in
+        (last : ℕ) (m : Sought) → Does rs log.now head last m (TryProbe key) result }
 {
     if key >= head.count {
         return refused(NO_KEY, head);

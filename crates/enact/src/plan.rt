@@ -1,5 +1,5 @@
-ghost use Rattle.kit.specs.Names.{◌≡◌, [], ◌∷◌, ◌++◌, ◌+◌, ◌<◌, length};
-ghost use Rattle.rules.specs.Rules.{memory_now, memory_lent, redirect, crown, puts};
+ghost use Rattle.std.specs.Prelude.{◌≡◌, [], ◌∷◌, ◌++◌, ◌+◌, ◌<◌, length};
+ghost use Rattle.rules.specs.Rules.{memory_lent, redirect, crown, puts};
 ghost use Rattle.roots.specs.Trail.{walk_of, compressed, Sound};
 ghost use Rattle.plans.specs.Plans.{finish_of, and_then, InsideEnd};
 ghost use Rattle.parts.specs.Ready.{Ready};
@@ -22,11 +22,12 @@ fn redirect_root(
     new_root: u32,
     new_value: Value,
 ) -> u32
-    requires ready { Ready count 2 (memory_now parents crowns amounts log opened used) }
+    requires ready { Ready count 2 (memory_lent parents.old crowns.old amounts.old log.old opened used) }
     requires old_root_lt_count { old_root < count }
     requires new_root_lt_count { new_root < count }
-    ensures* { let m = memory_lent parents crowns amounts log in
-        λ r. ⌜ m.exit opened r ≡ puts (m.entry opened used) (redirect old_root new_root ∷ crown new_root new_rank new_value ∷ []) ⌝ }
+    ensures { let m = memory_lent parents.old crowns.old amounts.old log.old in
+        let after = memory_lent parents.new crowns.new amounts.new log.new in
+        after opened result ≡ puts (m opened used) (redirect old_root new_root ∷ crown new_root new_rank new_value ∷ []) }
 {
     let more = snapshot_vec::update::redirect(
         parents, crowns, amounts, log, opened, used, old_root, new_root,
@@ -47,9 +48,11 @@ pub fn finish(
     used: u32,
     end: Finish,
 ) -> u32
-    requires ready { Ready count (length (finish_of end)) (memory_now parents crowns amounts log opened used) }
+    requires ready { Ready count (length (finish_of end)) (memory_lent parents.old crowns.old amounts.old log.old opened used) }
     requires inside_end { InsideEnd count end }
-    ensures* { let m = memory_lent parents crowns amounts log in λ r. ⌜ m.exit opened r ≡ puts (m.entry opened used) (finish_of end) ⌝ }
+    ensures { let m = memory_lent parents.old crowns.old amounts.old log.old in
+        let after = memory_lent parents.new crowns.new amounts.new log.new in
+        after opened result ≡ puts (m opened used) (finish_of end) }
 {
     match end {
         Finish::Nothing => used,
@@ -75,12 +78,13 @@ pub fn enact(
     second: Trail,
     end: Finish,
 ) -> u32
-    requires ready { Ready count (length (walk_of first) + (length (walk_of second) + length (finish_of end))) (memory_now parents crowns amounts log opened used) }
+    requires ready { Ready count (length (walk_of first) + (length (walk_of second) + length (finish_of end))) (memory_lent parents.old crowns.old amounts.old log.old opened used) }
     requires sound { Sound parents.old count first }
     requires sound_2 { Sound (compressed first parents.old) count second }
     requires inside_end { InsideEnd count end }
-    ensures* { let m = memory_lent parents crowns amounts log in
-        λ r. ⌜ m.exit opened r ≡ puts (m.entry opened used) (and_then (walk_of first ++ walk_of second) end) ⌝ }
+    ensures { let m = memory_lent parents.old crowns.old amounts.old log.old in
+        let after = memory_lent parents.new crowns.new amounts.new log.new in
+        after opened result ≡ puts (m opened used) (and_then (walk_of first ++ walk_of second) end) }
 {
     let one = rewrites::walk::rewrite(parents, crowns, amounts, log, count, opened, used, first);
     let two = rewrites::walk::rewrite(parents, crowns, amounts, log, count, opened, one, second);

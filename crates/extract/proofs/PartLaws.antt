@@ -1,5 +1,6 @@
 -- The part of a list from a place to a place, at each of its ends; and a number past a log's end. Assumes nothing.
-use Rattle.kit.specs.Names.{◌≡◌, refl, sym, ◌∙◌, List, [], ℕ, zero, suc, ◌+◌, ◌-◌, ◌*◌, ◌/◌, ◌<◌, ◌≤◌, length, get_or, take, drop, length-drop, drop_of_length-le, List·getD-eq-default, take_all}
+use Rattle.std.specs.Prelude.{◌≡◌, ◌+◌, ◌-◌, ◌*◌, ◌/◌, ◌<◌, ◌≤◌}
+use Rattle.kit.specs.Names.{refl, sym, ◌∙◌, List, [], ℕ, zero, suc, length, get_or, take, drop, length-drop, drop_of_length-le, get_or-eq_default, take_all}
 use Rattle.kit.specs.Names.{arith}
 use Rattle.rules.specs.Rules.{ENTRY}
 
@@ -22,7 +23,7 @@ module _ (l : List ℕ) (a e : ℕ) where
 module _ (l : List ℕ) (i word : ℕ) where
   -- an entry past the last, whole or not; and a number of an entry that the log ends in
   pub number_past : length l / ENTRY < i → 0 ≡ get_or l (i * ENTRY + word) 0
-  number_past h = sym (List·getD-eq-default l 0 {n = i * ENTRY + word} (omega (arith, h)))
+  number_past h = sym (get_or-eq_default l 0 {n = i * ENTRY + word} (omega (arith, h)))
 
   pub number_cut : length l - i * ENTRY ≤ word → 0 ≡ get_or l (i * ENTRY + word) 0
-  number_cut h = sym (List·getD-eq-default l 0 {n = i * ENTRY + word} (omega (arith, h)))
+  number_cut h = sym (get_or-eq_default l 0 {n = i * ENTRY + word} (omega (arith, h)))

@@ -1,5 +1,6 @@
 -- An entry of a log as its numbers, and what they say.
-use Rattle.kit.specs.Names.{cond, ℕ, ◌+◌, ◌*◌, get_or, eqb}
+use Rattle.std.specs.Prelude.{◌+◌, ◌*◌}
+use Rattle.kit.specs.Names.{cond, ℕ, get_or, eqb}
 use Rattle.rules.specs.Rules.{UndoLog, ENTRY, KIND-UNKNOWN, KIND-NEW, KIND-SET, Log, old_at}
 use Rattle.rules.specs.declared.table.UndoLog.TheVariants.{NewElem, SetElem, Unknown}
 use Rattle.parts.specs.declared.entries.Numbers.{Numbers}

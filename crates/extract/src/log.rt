@@ -1,5 +1,5 @@
-ghost use Rattle.kit.specs.Names.{◌≡◌, ◌+◌, ◌*◌, get_or};
-ghost use Rattle.rules.specs.Rules.{ENTRY, old_at, entry_at, viewed, log_lent};
+ghost use Rattle.std.specs.Prelude.{◌≡◌, ◌+◌, ◌*◌, get_or};
+ghost use Rattle.rules.specs.Rules.{ENTRY, old_at, entry_at, viewed};
 ghost use Rattle.extract.specs.Numbers.{lent_at, action_of};
 
 use parts::entries::Numbers;
@@ -8,7 +8,7 @@ use rules::table::{Row, UndoLog};
 
 // The part of a log from an entry to an entry; what lies past its end is left out.
 pub fn part(log: &[u32], from: u32, to: u32) -> &[u32]
-    ensures* { let l = log_lent log in λ r. ⌜ r.now ≡ viewed l.entry from to ⌝ }
+    ensures { result.now ≡ viewed log.now from to }
 {
     let start = from as usize * ENTRY;
     let end = to as usize * ENTRY;
@@ -26,7 +26,7 @@ pub fn part(log: &[u32], from: u32, to: u32) -> &[u32]
 
 // A number of entry `i`, and 0 past the log's end: nothing is asked of a view, so it may end inside an entry.
 fn number(log: &[u32], i: usize, word: usize) -> u32
-    ensures* { let l = log_lent log in λ r. ⌜ r ≡ get_or l.entry (i * ENTRY + word) 0 ⌝ }
+    ensures { result ≡ get_or log.now (i * ENTRY + word) 0 }
 {
     if log.len() / ENTRY < i {
         return 0;
@@ -40,7 +40,7 @@ fn number(log: &[u32], i: usize, word: usize) -> u32
 
 // The old row of entry `i`.
 fn old_of(log: &[u32], i: usize) -> Row
-    ensures* { let l = log_lent log in λ r. ⌜ r ≡ old_at l.entry (i * ENTRY) ⌝ }
+    ensures { result ≡ old_at log.now (i * ENTRY) }
 {
     let owner = makers::owner::owner_of(number(log, i, 4));
     let amount = parts::amounts::amount_of(number(log, i, 5), number(log, i, 6));
@@ -54,7 +54,7 @@ fn old_of(log: &[u32], i: usize) -> Row
 
 // The numbers of entry `i` as they are lent, whatever its kind.
 pub fn lent_of(log: &[u32], i: usize) -> Numbers
-    ensures* { let l = log_lent log in λ r. ⌜ r ≡ lent_at l.entry i ⌝ }
+    ensures { result ≡ lent_at log.now i }
 {
     let old = old_of(log, i);
     Numbers {
@@ -80,7 +80,7 @@ pub fn action_of(numbers: Numbers) -> UndoLog
 
 // Entry `i` by value: past the end it is of no known kind.
 pub fn entry_of(log: &[u32], i: usize) -> UndoLog
-    ensures* { let l = log_lent log in λ r. ⌜ r ≡ entry_at l.entry i ⌝ }
+    ensures { result ≡ entry_at log.now i }
 {
     action_of(lent_of(log, i))
 }

@@ -1,7 +1,8 @@
 -- Long walks: traced and judged, they come to what the rules make of them, and can be carried out. Assumes nothing.
-use Rattle.kit.specs.Names.{◌≡◌, refl, ap, ap₂, sym, ◌∙◌, true, false, List, [], ◌++◌, append-nil, ℕ, ◌+◌, ◌-◌, ◌<◌, length, length-append, arith}
+use Rattle.std.specs.Prelude.{◌≡◌, ◌++◌, ◌+◌, ◌-◌, ◌<◌}
+use Rattle.kit.specs.Names.{refl, ap, ap₂, sym, ◌∙◌, true, false, List, [], append-nil, ℕ, length, length-append, arith}
 use Rattle.rules.specs.Rules.{Call, Head, Mark, BROKEN-TABLE, MAX-REDIRECTS, Rows, Log, table, entries, refusal, broken, path, Plan, plan, Walked, go_on, walk}
-use Rattle.rules.specs.Rules.{walk_both, refused, carry, sizes_of, bad, call, step}
+use Rattle.rules.specs.Rules.{walk_both, carry, sizes_of, bad, call, step}
 use Rattle.undo_log.specs.Settled.{state_with}
 use Rattle.roots.specs.declared.path.Trail.{Trail}
 use Rattle.roots.specs.Trail.{root_of, traced, compressed, walk_of, Short, Sound, Idle}
@@ -13,7 +14,7 @@ use Rattle.plans.specs.declared.verdict.Verdict.TheVariants.{Refused, Planned}
 use Rattle.plans.specs.Plans.{finish_of, plan_of, walked_to, one_on, two_on, MadeOfOne, MadeOfTwo, Inside, fitted}
 use Rattle.decisions.specs.declared.decision.FarPlan.{FarPlan}
 use Rattle.decisions.specs.Sorted.{one_call, two_call}
-use Rattle.decisions.specs.Decided.{Doable, DoableIf, FarPlanned}
+use Rattle.decisions.specs.Decided.{DoableIf, FarPlanned}
 use Rattle.decisions.proofs.FitLaws.{refused_is, fitted_is, Fits, fits, inside_fitted, good_ready}
 use Rattle.decisions.proofs.WalkedLaws.{one_walks, two_walk}
 

@@ -1,2 +1,4 @@
 // Calls with a walk of two redirects or more, planned over `&` parts.
+#![tactic(auto)]
+
 pub mod plan;

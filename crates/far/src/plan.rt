@@ -1,6 +1,6 @@
 // Calls with a walk of two redirects or more: traced, and judged before anything is written.
-ghost use Rattle.kit.specs.Names.{◌≡◌, false, ◌-◌, ◌<◌};
-ghost use Rattle.rules.specs.Rules.{rows_now, rows_lent, log_lent, sizes_of, bad};
+ghost use Rattle.std.specs.Prelude.{◌≡◌, false, ◌-◌, ◌<◌};
+ghost use Rattle.rules.specs.Rules.{rows_lent, sizes_of, bad};
 ghost use Rattle.roots.specs.Trail.{Idle};
 ghost use Rattle.decisions.specs.Sorted.{walk_call, LiveKeys};
 ghost use Rattle.decisions.specs.Decided.{FarPlanned};
@@ -47,11 +47,10 @@ fn far_one(
     key: u32,
     call: OneCall,
 ) -> FarPlan
-    requires head_value { bad (sizes_of (rows_now parents crowns amounts) log.now) head ≡ false }
+    requires head_value { bad (sizes_of (rows_lent parents.now crowns.now amounts.now) log.now) head ≡ false }
     requires key_lt_count { key < head.count }
-    ensures* { let rs = rows_lent parents crowns amounts in
-        let l = log_lent log in
-        λ r. ⌜ FarPlanned rs.entry l.entry head (walk_call (One key call)) r ⌝ }
+    ensures { let rs = rows_lent parents.now crowns.now amounts.now in
+        FarPlanned rs log.now head (walk_call (One key call)) result }
 {
     let first = trace(parents, head.count, key);
     let second = idle();
@@ -89,12 +88,11 @@ fn far_two(
     b: u32,
     call: TwoCall,
 ) -> FarPlan
-    requires head_value { bad (sizes_of (rows_now parents crowns amounts) log.now) head ≡ false }
+    requires head_value { bad (sizes_of (rows_lent parents.now crowns.now amounts.now) log.now) head ≡ false }
     requires a_lt_count { a < head.count }
     requires b_lt_count { b < head.count }
-    ensures* { let rs = rows_lent parents crowns amounts in
-        let l = log_lent log in
-        λ r. ⌜ FarPlanned rs.entry l.entry head (walk_call (Two a call b)) r ⌝ }
+    ensures { let rs = rows_lent parents.now crowns.now amounts.now in
+        FarPlanned rs log.now head (walk_call (Two a call b)) result }
 {
     let first = trace(parents, head.count, a);
     if !first.found {
@@ -148,11 +146,10 @@ pub fn far_plan(
     head: Head,
     call: WalkCall,
 ) -> FarPlan
-    requires head_value { bad (sizes_of (rows_now parents crowns amounts) log.now) head ≡ false }
+    requires head_value { bad (sizes_of (rows_lent parents.now crowns.now amounts.now) log.now) head ≡ false }
     requires live_keys { LiveKeys head.count call }
-    ensures* { let rs = rows_lent parents crowns amounts in
-        let l = log_lent log in
-        λ r. ⌜ FarPlanned rs.entry l.entry head (walk_call call) r ⌝ }
+    ensures { let rs = rows_lent parents.now crowns.now amounts.now in
+        FarPlanned rs log.now head (walk_call call) result }
 {
     match call {
         WalkCall::One(key, what) => far_one(parents, crowns, amounts, log, head, key, what),

@@ -1,5 +1,5 @@
 // The calls that neither read nor write rows and entries, over a head, the last serial and the mark in question.
-ghost use Rattle.kit.specs.Names.{◌≡◌, ◌≤◌};
+ghost use Rattle.std.specs.Prelude.{◌≡◌, ◌≤◌};
 ghost use Rattle.rules.specs.Rules.{MAX-OPEN};
 ghost use Rattle.undo_log.specs.HeadCalls.{on_head};
 
@@ -8,6 +8,7 @@ use rules::table::{Head, Sought};
 use undo_log::tokens::{HeadCall, Settled, commit, len, snapshot};
 
 // Any of these calls, where the mark that it is about is at hand.
+#[tactic(auto, unfolding(undo_log::specs::HeadCalls::on_head))]
 pub fn on_head(head: Head, last: u64, sought: Sought, call: HeadCall) -> Settled
     requires { head.«open» ≤ MAX-OPEN }
     ensures { result ≡ on_head head last sought call }

@@ -1,5 +1,6 @@
 -- Two walks: what the code makes of where they lead is what the rules make of it. Assumes nothing.
-use Rattle.kit.specs.Names.{◌≡◌, ap, ap₂, sym, ◌∙◌, ◌++◌, ℕ, ◌≤◌, ◌<◌, eqb, lt-ltb, le-ltb, eq-eqb, ne_eqb}
+use Rattle.std.specs.Prelude.{◌≡◌, ◌++◌, ◌≤◌, ◌<◌}
+use Rattle.kit.specs.Names.{ap, ap₂, sym, ◌∙◌, ℕ, eqb, lt-ltb, le-ltb, eq-eqb, ne_eqb}
 use Rattle.rules.specs.Rules.{Answer, Row, Value, Merged, DONE, BROKEN-TABLE, OWNER-CLASH, TOO-MUCH, MAX-RANK, Rows, row_at, value_of, said, stepped, merge, plan}
 use Rattle.rules.specs.declared.table.Merged.TheVariants.{Clash, TooMuch, Both}
 use Rattle.plans.specs.declared.verdict.Finish.{Finish}

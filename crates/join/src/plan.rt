@@ -1,4 +1,4 @@
-ghost use Rattle.kit.specs.Names.{◌≡◌, ℕ, ◌≤◌, ◌<◌};
+ghost use Rattle.std.specs.Prelude.{◌≡◌, ℕ, ◌≤◌, ◌<◌};
 ghost use Rattle.rules.specs.Rules.{MAX-RANK};
 ghost use Rattle.plans.specs.Plans.{finish_of, united, InsideEnd, Inside, Joined};
 

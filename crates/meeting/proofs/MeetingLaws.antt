@@ -1,5 +1,6 @@
 -- Laws of the parents that a walk leaves on its path, and of the path from another key there. Assumes nothing.
-use Rattle.kit.specs.Names.{◌≡◌, refl, ap, sym, ◌∙◌, true, List, [], ◌∷◌, append-nil, ℕ, zero, suc, ◌+◌, ◌-◌, ◌≤◌, ◌<◌, length, get_or, take, set, length-set, length-take, get_or-set_same}
+use Rattle.std.specs.Prelude.{◌≡◌, ◌∷◌, ◌+◌, ◌-◌, ◌≤◌, ◌<◌}
+use Rattle.kit.specs.Names.{refl, ap, sym, ◌∙◌, true, List, [], append-nil, ℕ, zero, suc, length, get_or, take, set, length-set, length-take, get_or-set_same}
 use Rattle.kit.specs.Names.{get_or-set_other, set_out, take-set-le, get_or-take, arith, dec_lt, ℕ_discrete}
 use Rattle.rules.specs.Rules.{broken, to, path}
 use Rattle.roots.specs.declared.path.Trail.{Trail}

@@ -1,6 +1,6 @@
 // Calls whose walks have at most one redirect, as nearly all have: nothing is rewritten and no path is kept.
-ghost use Rattle.kit.specs.Names.{◌≡◌, false};
-ghost use Rattle.rules.specs.Rules.{rows_now, rows_lent, log_lent, sizes_of, bad};
+ghost use Rattle.std.specs.Prelude.{◌≡◌, false};
+ghost use Rattle.rules.specs.Rules.{rows_lent, sizes_of, bad};
 ghost use Rattle.decisions.specs.Sorted.{walk_call};
 ghost use Rattle.decisions.specs.Decided.{DecidedAnyhow};
 ghost use Rattle.decisions.specs.declared.sorted.WalkCall.TheVariants.{One, Two};
@@ -26,10 +26,9 @@ fn near_two(
     b: u32,
     call: TwoCall,
 ) -> Decision
-    requires { bad (sizes_of (rows_now parents crowns amounts) log.now) head ≡ false }
-    ensures* { let rs = rows_lent parents crowns amounts in
-        let l = log_lent log in
-        λ r. ⌜ DecidedAnyhow rs.entry l.entry head (walk_call (Two a call b)) r ⌝ }
+    requires { bad (sizes_of (rows_lent parents.now crowns.now amounts.now) log.now) head ≡ false }
+    ensures { let rs = rows_lent parents.now crowns.now amounts.now in
+        DecidedAnyhow rs log.now head (walk_call (Two a call b)) result }
 {
     if a >= head.count {
         return Decision::Near(refused(NO_KEY, head));
@@ -68,10 +67,9 @@ pub fn near_walk(
     head: Head,
     call: WalkCall,
 ) -> Decision
-    requires { bad (sizes_of (rows_now parents crowns amounts) log.now) head ≡ false }
-    ensures* { let rs = rows_lent parents crowns amounts in
-        let l = log_lent log in
-        λ r. ⌜ DecidedAnyhow rs.entry l.entry head (walk_call call) r ⌝ }
+    requires { bad (sizes_of (rows_lent parents.now crowns.now amounts.now) log.now) head ≡ false }
+    ensures { let rs = rows_lent parents.now crowns.now amounts.now in
+        DecidedAnyhow rs log.now head (walk_call call) result }
 {
     match call {
         WalkCall::One(key, what) => near_one(parents, crowns, amounts, log, head, key, what),

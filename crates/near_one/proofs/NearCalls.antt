@@ -1,5 +1,6 @@
 -- Calls whose walks are near, decided. Assumes nothing.
-use Rattle.kit.specs.Names.{◌≡◌, refl, ap, ◌∙◌, false, [], ℕ, ◌+◌, ◌≤◌, ◌<◌}
+use Rattle.std.specs.Prelude.{◌≡◌, ◌+◌, ◌≤◌, ◌<◌}
+use Rattle.kit.specs.Names.{refl, ap, ◌∙◌, false, [], ℕ}
 use Rattle.rules.specs.Rules.{Head, Sought, NO-KEY, Rows, Log, table, entries, refusal, carry, sizes_of, bad, step}
 use Rattle.undo_log.specs.Settled.{settled, state_with}
 use Rattle.roots.specs.declared.near.Near.{Near}

@@ -1,5 +1,5 @@
-ghost use Rattle.kit.specs.Names.{◌≡◌, false};
-ghost use Rattle.rules.specs.Rules.{rows_now, rows_lent, log_lent, sizes_of, bad};
+ghost use Rattle.std.specs.Prelude.{◌≡◌, false};
+ghost use Rattle.rules.specs.Rules.{rows_lent, sizes_of, bad};
 ghost use Rattle.decisions.specs.Sorted.{walk_call};
 ghost use Rattle.decisions.specs.Decided.{DecidedAnyhow};
 ghost use Rattle.decisions.specs.declared.sorted.WalkCall.TheVariants.{One};
@@ -23,10 +23,9 @@ pub fn near_one(
     key: u32,
     call: OneCall,
 ) -> Decision
-    requires { bad (sizes_of (rows_now parents crowns amounts) log.now) head ≡ false }
-    ensures* { let rs = rows_lent parents crowns amounts in
-        let l = log_lent log in
-        λ r. ⌜ DecidedAnyhow rs.entry l.entry head (walk_call (One key call)) r ⌝ }
+    requires { bad (sizes_of (rows_lent parents.now crowns.now amounts.now) log.now) head ≡ false }
+    ensures { let rs = rows_lent parents.now crowns.now amounts.now in
+        DecidedAnyhow rs log.now head (walk_call (One key call)) result }
 {
     if key >= head.count {
         return Decision::Near(refused(NO_KEY, head));

@@ -1,2 +1,4 @@
 // A call of one walk of at most one redirect, decided.
+#![tactic(auto)]
+
 pub mod calls;

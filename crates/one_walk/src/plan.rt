@@ -1,5 +1,5 @@
 ghost use Rattle.std.specs.Prelude.{ℕ, ◌<◌};
-ghost use Rattle.rules.specs.Rules.{rows_now, rows_lent};
+ghost use Rattle.rules.specs.Rules.{rows_lent};
 ghost use Rattle.parts.specs.Bounds.{InRows};
 ghost use Rattle.plans.specs.Plans.{Inside, MadeOfOne};
 
@@ -20,8 +20,9 @@ pub fn one_plan(
     root: u32,
     steps: u32,
 ) -> Verdict
-    requires { InRows root (rows_now parents crowns amounts) }
-    ensures* fact { let rs = rows_lent parents crowns amounts in λ r. ⌜ MadeOfOne rs.entry call root steps r ⌝ }
+    requires { InRows root (rows_lent parents.now crowns.now amounts.now) }
+    ensures fact { let rs = rows_lent parents.now crowns.now amounts.now in
+        MadeOfOne rs call root steps result }
     ensures by_index { (count : ℕ) → root < count → Inside count result }
 {
     match call {

@@ -1,5 +1,6 @@
 -- Where the lent parts fit one another, every row and every entry lies within them. Assumes nothing.
-use Rattle.kit.specs.Names.{◌≡◌, ℕ, ◌*◌, ◌≤◌, ◌<◌, length, arith}
+use Rattle.std.specs.Prelude.{◌≡◌, ◌*◌, ◌≤◌, ◌<◌}
+use Rattle.kit.specs.Names.{ℕ, length, arith}
 use Rattle.rules.specs.Rules.{CROWN, ENTRY, MAX-ENTRIES, Rows, Log}
 use Rattle.parts.specs.Bounds.{InRows, Even, InLog}
 

@@ -1,5 +1,6 @@
 -- An entry's numbers, stored. Assumes nothing.
-use Rattle.kit.specs.Names.{◌≡◌, ℕ, ◌+◌, ◌*◌, set}
+use Rattle.std.specs.Prelude.{◌≡◌, ◌+◌, ◌*◌}
+use Rattle.kit.specs.Names.{ℕ, set}
 use Rattle.rules.specs.Rules.{UndoLog, ENTRY, Log, put_old, put_entry}
 use Rattle.parts.specs.declared.entries.Numbers.{Numbers}
 use Rattle.parts.specs.Numbers.{numbers_of}

@@ -1,5 +1,6 @@
 -- What the leaves ask of their callers: that an index lies within what is lent.
-use Rattle.kit.specs.Names.{◌≡◌, ℕ, ◌+◌, ◌*◌, ◌≤◌, ◌<◌, length}
+use Rattle.std.specs.Prelude.{◌≡◌, ◌+◌, ◌*◌, ◌≤◌, ◌<◌}
+use Rattle.kit.specs.Names.{ℕ, length}
 use Rattle.rules.specs.Rules.{UndoLog, CROWN, ENTRY, MAX-ENTRIES, Rows, Log}
 use Rattle.rules.specs.declared.table.UndoLog.TheVariants.{NewElem, SetElem, Unknown}
 

@@ -1,5 +1,6 @@
 -- What carrying out a plan asks of the memory: rows within what is lent, and room in the log.
-use Rattle.kit.specs.Names.{◌≡◌, ℕ, ◌+◌, ◌*◌, ◌≤◌, length}
+use Rattle.std.specs.Prelude.{◌≡◌, ◌+◌, ◌*◌, ◌≤◌}
+use Rattle.kit.specs.Names.{ℕ, length}
 use Rattle.rules.specs.Rules.{MAX-ENTRIES, ENTRY, Memory}
 use Rattle.parts.specs.Bounds.{Even}
 

@@ -1,5 +1,5 @@
-ghost use Rattle.kit.specs.Names.{◌≡◌, ◌+◌, ◌≤◌, length};
-ghost use Rattle.rules.specs.Rules.{ENTRY, old_at, put_old, entry_at, put_entry, log_lent};
+ghost use Rattle.std.specs.Prelude.{◌≡◌, ◌+◌, ◌≤◌, length};
+ghost use Rattle.rules.specs.Rules.{ENTRY, old_at, put_old, entry_at, put_entry};
 ghost use Rattle.parts.specs.Bounds.{InLog};
 ghost use Rattle.parts.specs.Numbers.{numbers_of};
 
@@ -9,7 +9,7 @@ use rules::table::{Owner, Row, UndoLog};
 // The old row of the entry that starts at `base`.
 pub fn old_at(log: &[u32], base: usize) -> Row
     requires { base + ENTRY ≤ length log.now }
-    ensures* { let l = log_lent log in λ r. ⌜ r ≡ old_at l.entry base ⌝ }
+    ensures { result ≡ old_at log.now base }
 {
     let owner = makers::owner::owner_of(log[base + 4]);
     let amount = crate::amounts::amount_of(log[base + 5], log[base + 6]);
@@ -24,7 +24,7 @@ pub fn old_at(log: &[u32], base: usize) -> Row
 // Writes the old row of the entry that starts at `base`.
 pub fn put_old(log: &mut [u32], base: usize, row: Row)
     requires { base + ENTRY ≤ length log.old }
-    ensures* { let l = log_lent log in λ r. ⌜ l.exit ≡ put_old l.entry base row ⌝ }
+    ensures { log.new ≡ put_old log.old base row }
 {
     let owner = row.owner;
     let number = makers::owner::number_of(owner);
@@ -40,7 +40,7 @@ pub fn put_old(log: &mut [u32], base: usize, row: Row)
 // Entry `i` by value: the enum's own case where it is of no known kind.
 pub fn entry_at(log: &[u32], i: u32) -> UndoLog
     requires { InLog i log.now }
-    ensures* { let l = log_lent log in λ r. ⌜ r ≡ entry_at l.entry i ⌝ }
+    ensures { result ≡ entry_at log.now i }
 {
     let base = i as usize * ENTRY;
     let kind = log[base];
@@ -96,7 +96,7 @@ pub fn numbers_of(entry: UndoLog) -> Numbers
 // Writes all of entry `i`.
 pub fn put_entry(log: &mut [u32], i: u32, entry: UndoLog)
     requires { InLog i log.old }
-    ensures* { let l = log_lent log in λ r. ⌜ l.exit ≡ put_entry l.entry i entry ⌝ }
+    ensures { log.new ≡ put_entry log.old i entry }
 {
     let base = i as usize * ENTRY;
     let word = numbers_of(entry);

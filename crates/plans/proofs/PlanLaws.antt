@@ -1,5 +1,6 @@
 -- Laws of verdicts: what they write, and whether it fits the log. Assumes nothing.
-use Rattle.kit.specs.Names.{◌≡◌, refl, sym, Bool, true, false, List, ◌++◌, append-nil, ℕ, ◌+◌, length}
+use Rattle.std.specs.Prelude.{◌≡◌, ◌++◌, ◌+◌}
+use Rattle.kit.specs.Names.{refl, sym, Bool, true, false, List, append-nil, ℕ, length}
 use Rattle.rules.specs.Rules.{Answer, LOG-FULL, Write}
 use Rattle.plans.specs.declared.verdict.Finish.{Finish}
 use Rattle.plans.specs.declared.verdict.Finish.TheVariants.{Nothing, Crown, Unite}

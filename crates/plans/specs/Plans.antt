@@ -1,5 +1,6 @@
 -- A call's plan as the code has it, made of where its walks lead: what the rules make of the same walks.
-use Rattle.kit.specs.Names.{◌≡◌, Bool, false, cond, List, [], ◌∷◌, ◌++◌, ℕ, ◌+◌, ◌-◌, ◌<◌, length, eqb, ltb}
+use Rattle.std.specs.Prelude.{◌≡◌, ◌∷◌, ◌++◌, ◌+◌, ◌-◌, ◌<◌}
+use Rattle.kit.specs.Names.{Bool, false, cond, List, [], ℕ, length, eqb, ltb}
 use Rattle.rules.specs.Rules.{Row, Value, LOG-FULL, Rows, value, owner_of, row_at, refusal, Write, redirect, crown, Plan, plan, Walked, find_on, unioned_on, join_on}
 use Rattle.rules.specs.Rules.{post_on, probe_on, probe_key_on}
 use Rattle.roots.specs.Saves.{with_parents}

@@ -1,4 +1,4 @@
-ghost use Rattle.kit.specs.Names.{◌≡◌, ◌≤◌, ◌<◌, length};
+ghost use Rattle.std.specs.Prelude.{◌≡◌, ◌≤◌, ◌<◌, length};
 ghost use Rattle.plans.specs.Plans.{finish_of, lacks, fitted};
 
 use crate::verdict::{Finish, Verdict};

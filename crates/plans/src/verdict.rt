@@ -2,7 +2,7 @@ use rules::call::Answer;
 use rules::table::Value;
 
 // What is written at the roots, after the walks.
-#[derive(Drop)]
+#[derive(Clone, Copy)]
 pub enum Finish {
     Nothing,
     // a root's rank and value
@@ -12,14 +12,14 @@ pub enum Finish {
 }
 
 // What a call that walks comes to: a refusal, which leaves even the walks unwritten; or an answer, the walks, and an end at the roots.
-#[derive(Drop)]
+#[derive(Clone, Copy)]
 pub enum Verdict {
     Refused(u32),
     Planned(Answer, Finish),
 }
 
 // The calls that walk from one key, and those that walk from two.
-#[derive(Drop)]
+#[derive(Clone, Copy)]
 pub enum OneCall {
     Find,
     Probe,
@@ -27,7 +27,7 @@ pub enum OneCall {
     Post(u32, u64),
 }
 
-#[derive(Drop)]
+#[derive(Clone, Copy)]
 pub enum TwoCall {
     Unioned,
     Join,

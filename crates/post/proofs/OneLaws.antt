@@ -1,5 +1,6 @@
 -- One walk: what the code makes of where it leads is what the rules make of it. Assumes nothing.
-use Rattle.kit.specs.Names.{◌≡◌, ap, sym, ◌∙◌, ℕ}
+use Rattle.std.specs.Prelude.{◌≡◌}
+use Rattle.kit.specs.Names.{ap, sym, ◌∙◌, ℕ}
 use Rattle.rules.specs.Rules.{Answer, Row, Value, Merged, DONE, OWNER-CLASH, TOO-MUCH, Rows, row_at, value_of, found, probed, stepped, merge}
 use Rattle.rules.specs.declared.table.Merged.TheVariants.{Clash, TooMuch, Both}
 use Rattle.plans.specs.declared.verdict.Finish.TheVariants.{Nothing, Crown}

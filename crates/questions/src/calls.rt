@@ -1,4 +1,4 @@
-ghost use Rattle.kit.specs.Names.{◌≡◌, ltb};
+ghost use Rattle.std.specs.Prelude.{◌≡◌, ltb};
 ghost use Rattle.rules.specs.Rules.{BROKEN-TABLE, range, said, unfit};
 ghost use Rattle.undo_log.specs.Settled.{settled, refuse_head};
 ghost use Rattle.undo_log.specs.HeadCalls.{asked_on};

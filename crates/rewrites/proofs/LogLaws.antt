@@ -1,5 +1,6 @@
 -- Laws of logging a walk's rows before they are rewritten. Assumes nothing.
-use Rattle.kit.specs.Names.{◌≡◌, refl, ap, sym, ◌∙◌, List, [], ◌∷◌, ℕ, suc, ◌+◌, ◌-◌, ◌≤◌, ◌<◌, length, get_or, take, drop, length-take, drop-cons, get_or-take, arith, eq-eqb}
+use Rattle.std.specs.Prelude.{◌≡◌, ◌∷◌, ◌+◌, ◌-◌, ◌≤◌, ◌<◌}
+use Rattle.kit.specs.Names.{refl, ap, sym, ◌∙◌, List, [], ℕ, suc, length, get_or, take, drop, length-take, drop-cons, get_or-take, arith, eq-eqb}
 use Rattle.rules.specs.Rules.{MAX-REDIRECTS, Rows, Log, Memory, memory}
 use Rattle.parts.specs.Bounds.{InRows, InLog}
 use Rattle.parts.proofs.BoundLaws.{even_row}

@@ -1,5 +1,6 @@
 -- Laws of memory that is ready for writes, and of writes one after the other. Assumes nothing.
-use Rattle.kit.specs.Names.{◌≡◌, refl, ap, subst⁻¹, ◌∙◌, Bool, true, false, cond, List, [], ◌∷◌, ◌++◌, ℕ, suc, ◌+◌, ◌-◌, ◌≤◌, ◌<◌, length, length-set, eqb, arith, ne_eqb}
+use Rattle.std.specs.Prelude.{◌≡◌, ◌∷◌, ◌++◌, ◌+◌, ◌≤◌, ◌<◌}
+use Rattle.kit.specs.Names.{refl, ap, subst⁻¹, ◌∙◌, Bool, true, false, cond, List, [], ℕ, suc, length, length-set, eqb, arith, ne_eqb}
 use Rattle.rules.specs.Rules.{UndoLog, Rows, Log, row_at, put_entry, Write, place, Memory, put, puts}
 use Rattle.rules.specs.declared.table.UndoLog.TheVariants.{SetElem}
 use Rattle.rules.proofs.RowLaws.{puts_rows}

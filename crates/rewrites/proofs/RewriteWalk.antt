@@ -1,5 +1,6 @@
 -- A walk's rewrites: nothing for fewer than two steps, else the logged rows and the compressed parents. Assumes nothing.
-use Rattle.kit.specs.Names.{◌≡◌, refl, ap, sym, ◌∙◌, List, [], ◌∷◌, ℕ, ◌-◌, ◌≤◌, ◌<◌, length, get_or, arith}
+use Rattle.std.specs.Prelude.{◌≡◌, ◌∷◌, ◌≤◌, ◌<◌}
+use Rattle.kit.specs.Names.{refl, ap, sym, ◌∙◌, List, [], ℕ, length, get_or, arith}
 use Rattle.rules.specs.Rules.{MAX-REDIRECTS, path, Write, Memory, memory, puts}
 use Rattle.roots.specs.declared.path.Trail.{Trail}
 use Rattle.roots.specs.Trail.{root_of, passed_of, compress, walk_of, Sound, Leads, Landed, landed, land}

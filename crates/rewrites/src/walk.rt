@@ -1,5 +1,5 @@
-ghost use Rattle.kit.specs.Names.{◌≡◌, ◌-◌};
-ghost use Rattle.rules.specs.Rules.{memory_now, memory_lent, puts};
+ghost use Rattle.std.specs.Prelude.{◌≡◌, ◌-◌};
+ghost use Rattle.rules.specs.Rules.{memory_lent, puts};
 ghost use Rattle.roots.specs.Trail.{passed_of, walk_of, Sound};
 ghost use Rattle.roots.specs.Saves.{saves};
 ghost use Rattle.parts.specs.Ready.{Ready};
@@ -8,6 +8,7 @@ use roots::path::Trail;
 use rules::numbers::MAX_REDIRECTS;
 
 // Logs the rows that a walk will rewrite, the nearest to the root first, if a snapshot is open.
+#[tactic(auto, using(crate::proofs::LogLaws::saves_shut))]
 fn log_walk(
     parents: &[u32],
     crowns: &[u32],
@@ -19,9 +20,10 @@ fn log_walk(
     trail: Trail,
 ) -> u32
     requires sound { Sound parents.now count trail }
-    requires ready { Ready count (trail.steps - 1) (memory_now parents crowns amounts log opened used) }
-    ensures* { let m = memory_lent parents crowns amounts log in
-        λ r. ⌜ m.exit opened r ≡ saves (passed_of trail) (m.entry opened used) ⌝ }
+    requires ready { Ready count (trail.steps - 1) (memory_lent parents.now crowns.now amounts.now log.old opened used) }
+    ensures { let m = memory_lent parents.now crowns.now amounts.now log.old in
+        let after = memory_lent parents.now crowns.now amounts.now log.new in
+        after opened result ≡ saves (passed_of trail) (m opened used) }
 {
     if opened == 0 {
         return used;
@@ -60,9 +62,10 @@ pub fn rewrite(
     trail: Trail,
 ) -> u32
     requires sound { Sound parents.old count trail }
-    requires ready { Ready count (trail.steps - 1) (memory_now parents crowns amounts log opened used) }
-    ensures* { let m = memory_lent parents crowns amounts log in
-        λ r. ⌜ m.exit opened r ≡ puts (m.entry opened used) (walk_of trail) ⌝ }
+    requires ready { Ready count (trail.steps - 1) (memory_lent parents.old crowns.now amounts.now log.old opened used) }
+    ensures { let m = memory_lent parents.old crowns.now amounts.now log.old in
+        let after = memory_lent parents.new crowns.now amounts.now log.new in
+        after opened result ≡ puts (m opened used) (walk_of trail) }
 {
     if trail.steps < 2 {
         return used;

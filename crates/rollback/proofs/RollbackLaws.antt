@@ -1,5 +1,6 @@
 -- What a rollback is at each of its ends, and what its functions ask of their callers. Assumes nothing.
-use Rattle.kit.specs.Names.{◌≡◌, refl, Bool, true, false, cond, not, ◌||◌, List, ℕ, ◌≤◌, ltb, arith, ltb-false, not-false}
+use Rattle.std.specs.Prelude.{◌≡◌, ◌||◌, ◌≤◌}
+use Rattle.kit.specs.Names.{refl, Bool, true, false, cond, not, List, ℕ, ltb, arith, ltb-false, not-false}
 use Rattle.rules.specs.declared.call.Call.TheVariants.{Rollback}
 use Rattle.rules.specs.Rules.{Head, Mark, DONE, NOT-INNERMOST, BROKEN-TABLE, Rows, Log, table, entries, with_head, refusal, not_innermost, innermost, unfit, since}
 use Rattle.rules.specs.Rules.{undoable, undo, rolled_back, outcome, refused, sizes_of, bad, call, step}

@@ -1,5 +1,6 @@
 -- Entries that are read and undone one at a time, newest first. Assumes nothing.
-use Rattle.kit.specs.Names.{◌≡◌, refl, ap, sym, ◌∙◌, Bool, true, false, ◌&&◌, List, [], ◌∷◌, ℕ, zero, suc, ◌+◌, ◌-◌, ◌≤◌, ◌<◌, length, length-set, eqb, ltb, arith, ℕ_discrete, eq-eqb, ne_eqb}
+use Rattle.std.specs.Prelude.{◌≡◌, ◌&&◌, ◌∷◌, ◌+◌, ◌-◌, ◌≤◌, ◌<◌}
+use Rattle.kit.specs.Names.{refl, ap, sym, ◌∙◌, Bool, true, false, List, [], ℕ, zero, suc, length, length-set, eqb, ltb, arith, ℕ_discrete, eq-eqb, ne_eqb}
 use Rattle.kit.specs.Names.{eqb-true, ltb-true}
 use Rattle.rules.specs.Rules.{UndoLog, Rows, Log, entry_at, newest_first, undoable, reversed, undo}
 use Rattle.rules.specs.declared.table.UndoLog.TheVariants.{NewElem, SetElem, Unknown}

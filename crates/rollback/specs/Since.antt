@@ -1,5 +1,6 @@
 -- The entries since a snapshot: that they lie in what is lent, and what one of them means for those before it.
-use Rattle.kit.specs.Names.{Bool, false, not, ◌||◌, List, [], ◌∷◌, ℕ, ◌+◌, ◌<◌, eqb, ltb}
+use Rattle.std.specs.Prelude.{◌||◌, ◌∷◌, ◌+◌, ◌<◌}
+use Rattle.kit.specs.Names.{Bool, false, not, List, [], ℕ, eqb, ltb}
 use Rattle.rules.specs.Rules.{Head, Mark, UndoLog, Rows, Log, unfit, since, undoable}
 use Rattle.rules.specs.declared.table.UndoLog.TheVariants.{NewElem, SetElem, Unknown}
 use Rattle.parts.specs.Bounds.{InLog, Undoing}

@@ -1,13 +1,14 @@
 ghost use Rattle.std.specs.Prelude.{◌≡◌};
-ghost use Rattle.rules.specs.Rules.{rolled_back, log_lent};
+ghost use Rattle.rules.specs.Rules.{rolled_back};
 ghost use Rattle.rollback.specs.Since.{Logged, broken};
 
 use rules::table::{Head, Mark};
 
 // Whether a mark cannot be this head's, or the entries since cannot be undone down to it.
+#[tactic(auto, unfolding(crate::specs::Since::broken), using(crate::proofs::RollbackLaws::fit))]
 pub fn broken(head: Head, mark: Mark, log: &[u32]) -> bool
     requires { Logged head.used log.now }
-    ensures* { let l = log_lent log in λ r. ⌜ r ≡ broken head mark l.entry ⌝ }
+    ensures { result ≡ broken head mark log.now }
 {
     if undo_log::marks::unfit(head, mark) {
         return true;

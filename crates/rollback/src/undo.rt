@@ -1,6 +1,6 @@
 // The entries since a snapshot, read newest first.
-ghost use Rattle.kit.specs.Names.{◌≡◌, ◌-◌, ◌≤◌};
-ghost use Rattle.rules.specs.Rules.{newest_first, undoable, log_lent};
+ghost use Rattle.std.specs.Prelude.{◌≡◌, ◌-◌, ◌≤◌};
+ghost use Rattle.rules.specs.Rules.{newest_first, undoable};
 ghost use Rattle.rollback.specs.Since.{Logged, allowed, count_before};
 
 use parts::entries::entry_at;
@@ -37,7 +37,7 @@ fn count_before(entry: UndoLog, count: u32) -> u32
 pub fn undoable(log: &[u32], base: u32, used: u32, keys: u32, count: u32) -> bool
     requires base_le_used { base ≤ used }
     requires logged { Logged used log.now }
-    ensures* { let l = log_lent log in λ r. ⌜ r ≡ undoable keys count (newest_first l.entry base (used - base)) ⌝ }
+    ensures { result ≡ undoable keys count (newest_first log.now base (used - base)) }
 {
     let mut unread = used - base;
     let mut reached = count;

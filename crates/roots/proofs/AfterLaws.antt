@@ -1,5 +1,6 @@
 -- Laws of the parents that a walk leaves off its path, and of a path's first row and root. Assumes nothing.
-use Rattle.kit.specs.Names.{◌≡◌, refl, ap, sym, ◌∙◌, List, [], ◌∷◌, ℕ, suc, ◌-◌, ◌<◌, length, get_or, get_or-set_other, arith}
+use Rattle.std.specs.Prelude.{◌≡◌, ◌∷◌, ◌-◌, ◌<◌}
+use Rattle.kit.specs.Names.{refl, ap, sym, ◌∙◌, List, [], ℕ, suc, length, get_or, get_or-set_other, arith}
 use Rattle.rules.specs.Rules.{to, path}
 use Rattle.roots.specs.Trail.{compress}
 use Rattle.roots.proofs.PathLaws.{path_root}

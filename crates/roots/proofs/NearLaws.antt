@@ -1,5 +1,6 @@
 -- A walk of at most one redirect leads where the rules' walk leads. Assumes nothing.
-use Rattle.kit.specs.Names.{◌≡◌, ap, sym, ◌∙◌, true, false, not, List, [], ◌∷◌, ℕ, zero, suc, ◌≤◌, ◌<◌, get_or, eqb, arith, ℕ_discrete, dec_lt, le-leb, lt-leb, eq-eqb, ne_eqb, eqb-true, not-false}
+use Rattle.std.specs.Prelude.{◌≡◌, ◌∷◌, ◌≤◌, ◌<◌}
+use Rattle.kit.specs.Names.{ap, sym, ◌∙◌, true, false, not, List, [], ℕ, zero, suc, get_or, eqb, arith, ℕ_discrete, dec_lt, le-leb, lt-leb, eq-eqb, ne_eqb, eqb-true, not-false}
 use Rattle.rules.specs.Rules.{MAX-REDIRECTS, to, path}
 use Rattle.roots.specs.declared.near.Near.{Near}
 use Rattle.roots.specs.Near.{near, near_of}

@@ -1,5 +1,6 @@
 -- The rows of a path are distinct. Assumes nothing.
-use Rattle.kit.specs.Names.{◌≡◌, ap, sym, ◌∙◌, List, [], ◌∷◌, ℕ, zero, suc, ◌-◌, ◌<◌, length, get_or, drop, length-drop, arith, ℕ_discrete}
+use Rattle.std.specs.Prelude.{◌≡◌, ◌∷◌, ◌-◌, ◌<◌}
+use Rattle.kit.specs.Names.{ap, sym, ◌∙◌, List, [], ℕ, zero, suc, length, get_or, drop, length-drop, arith, ℕ_discrete}
 use Rattle.rules.specs.Rules.{to, path}
 use Rattle.roots.proofs.PathLaws.{path_root}
 use Rattle.roots.proofs.WalkLaws.{path_in, path_back}

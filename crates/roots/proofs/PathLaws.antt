@@ -1,5 +1,6 @@
 -- Laws of `path`. Assumes nothing.
-use Rattle.kit.specs.Names.{◌≡◌, refl, ap, List, [], ◌∷◌, ◌++◌, append-nil, ℕ, zero, suc, ◌+◌, ◌-◌, ◌≤◌, ◌<◌, length, get_or, take, set, take-suc-set, get_or-set_same, take-set-le, arith, add-one}
+use Rattle.std.specs.Prelude.{◌≡◌, ◌∷◌, ◌++◌, ◌+◌, ◌-◌, ◌≤◌, ◌<◌}
+use Rattle.kit.specs.Names.{refl, ap, List, [], append-nil, ℕ, zero, suc, length, get_or, take, set, take-suc-set, get_or-set_same, take-set-le, arith, add-one}
 use Rattle.kit.specs.Names.{lt-ltb, le-ltb, eq-eqb, ne_eqb}
 use Rattle.rules.specs.Rules.{Path, broken, to, from, path}
 

@@ -1,5 +1,6 @@
 -- What a walk's writes leave: of the rows, the parents; of the log, the old rows. Assumes nothing.
-use Rattle.kit.specs.Names.{◌≡◌, refl, ap, sym, ◌∙◌, List, [], ◌∷◌, ◌++◌, ℕ, ◌+◌, ◌-◌, length, get_or, set, length-append, arith}
+use Rattle.std.specs.Prelude.{◌≡◌, ◌∷◌, ◌++◌, ◌-◌}
+use Rattle.kit.specs.Names.{refl, ap, sym, ◌∙◌, List, [], ℕ, length, get_or, set, length-append, arith}
 use Rattle.rules.specs.declared.table.UndoLog.TheVariants.{SetElem}
 use Rattle.rules.specs.Rules.{Rows, row_at, to, path, Write, redirect, write, writes, Memory, memory, logged, put, puts, rewrites}
 use Rattle.rules.proofs.RowLaws.{write_redirect}

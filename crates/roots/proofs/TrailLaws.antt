@@ -1,5 +1,6 @@
 -- A trail that was traced is a walk that can be made. Assumes nothing.
-use Rattle.kit.specs.Names.{◌≡◌, sym, ap, ◌∙◌, true, false, List, [], ◌∷◌, ℕ, ◌-◌, ◌<◌, length, get_or, length-take, get_or-take, arith}
+use Rattle.std.specs.Prelude.{◌≡◌, ◌∷◌, ◌-◌, ◌<◌}
+use Rattle.kit.specs.Names.{sym, ap, ◌∙◌, true, false, List, [], ℕ, length, get_or, length-take, get_or-take, arith}
 use Rattle.rules.specs.Rules.{MAX-REDIRECTS, Rows, broken, to, path, rewrites, walked_on}
 use Rattle.roots.specs.declared.path.Trail.{Trail}
 use Rattle.roots.specs.Saves.{with_parents}

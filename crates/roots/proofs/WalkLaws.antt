@@ -1,5 +1,6 @@
 -- Laws of a path's ends and of a walk along it. Assumes nothing.
-use Rattle.kit.specs.Names.{◌≡◌, refl, ap, sym, ◌∙◌, List, [], ◌∷◌, ℕ, zero, suc, ◌-◌, ◌≤◌, ◌<◌, length, get_or, set, arith, dec_lt, ℕ_discrete}
+use Rattle.std.specs.Prelude.{◌≡◌, ◌∷◌, ◌-◌, ◌≤◌, ◌<◌}
+use Rattle.kit.specs.Names.{refl, ap, sym, ◌∙◌, List, [], ℕ, zero, suc, length, get_or, set, arith, dec_lt, ℕ_discrete}
 use Rattle.rules.specs.Rules.{Path, broken, to, from, path}
 use Rattle.roots.specs.Trail.{Leads, Landed, landed, land, compress}
 use Rattle.roots.proofs.PathLaws.{path_out, path_root, path_spent, path_more}

@@ -1,6 +1,7 @@
 -- A walk's effect in two parts: its old rows are logged, the nearest to the root first, and then parents are rewritten. The rows of
 -- a path are distinct, so the memory afterwards is that of logging and writing row by row.
-use Rattle.kit.specs.Names.{List, [], ◌∷◌, ℕ}
+use Rattle.std.specs.Prelude.{◌∷◌}
+use Rattle.kit.specs.Names.{List, [], ℕ}
 use Rattle.rules.specs.declared.table.UndoLog.TheVariants.{SetElem}
 use Rattle.rules.specs.Rules.{Rows, row_at, Memory, logged}
 

@@ -1,5 +1,6 @@
 -- A walk as the code has it: a trail of nodes, and the parents after the walk.
-use Rattle.kit.specs.Names.{◌≡◌, cond, List, [], ◌∷◌, ℕ, ◌≤◌, ◌<◌, length, get_or, take, set}
+use Rattle.std.specs.Prelude.{◌≡◌, ◌∷◌, ◌≤◌, ◌<◌}
+use Rattle.kit.specs.Names.{cond, List, [], ℕ, length, get_or, take, set}
 use Rattle.rules.specs.Rules.{MAX-REDIRECTS, Path, broken, to, path, Write, rewrites}
 use Rattle.roots.specs.declared.path.Trail.{Trail}
 

@@ -1,9 +1,9 @@
-ghost use Rattle.kit.specs.Names.{◌≡◌, ◌≤◌, length};
+ghost use Rattle.std.specs.Prelude.{◌≡◌, ◌≤◌, length};
 ghost use Rattle.rules.specs.Rules.{MAX-REDIRECTS, path};
 ghost use Rattle.roots.specs.Trail.{traced, Short};
 
 // The rows from a key to its root, both among them: `nodes[steps]` is the root.
-#[derive(Drop)]
+#[derive(Clone, Copy)]
 pub struct Trail {
     pub found: bool,
     pub steps: usize,

@@ -1,5 +1,5 @@
-ghost use Rattle.kit.specs.Names.{◌≡◌, ◌+◌, ◌*◌, ◌≤◌, length};
-ghost use Rattle.rules.specs.Rules.{CROWN, row_at, put_crown, put_row, rows_now, rows_lent};
+ghost use Rattle.std.specs.Prelude.{◌≡◌, ◌+◌, ◌*◌, ◌≤◌, length};
+ghost use Rattle.rules.specs.Rules.{CROWN, row_at, put_crown, put_row, rows_lent};
 ghost use Rattle.parts.specs.Bounds.{InRows};
 
 use rules::numbers::CROWN;
@@ -7,8 +7,9 @@ use rules::table::{Owner, Row};
 
 // Row `i` by value.
 pub fn row_at(parents: &[u32], crowns: &[u32], amounts: &[u64], i: u32) -> Row
-    requires { InRows i (rows_now parents crowns amounts) }
-    ensures* { let rs = rows_lent parents crowns amounts in λ r. ⌜ r ≡ row_at rs.entry i ⌝ }
+    requires { InRows i (rows_lent parents.now crowns.now amounts.now) }
+    ensures { let rs = rows_lent parents.now crowns.now amounts.now in
+        result ≡ row_at rs i }
 {
     let at = i as usize;
     let base = at * CROWN;
@@ -34,8 +35,10 @@ pub fn put_crown(crowns: &mut [u32], i: u32, rank: u32, owner: Owner)
 
 // Writes all of row `i`.
 pub fn put_row(parents: &mut [u32], crowns: &mut [u32], amounts: &mut [u64], i: u32, row: Row)
-    requires { InRows i (rows_now parents crowns amounts) }
-    ensures* { let rs = rows_lent parents crowns amounts in λ r. ⌜ rs.exit ≡ put_row rs.entry i row ⌝ }
+    requires { InRows i (rows_lent parents.old crowns.old amounts.old) }
+    ensures { let rs = rows_lent parents.old crowns.old amounts.old in
+        let after = rows_lent parents.new crowns.new amounts.new in
+        after ≡ put_row rs i row }
 {
     let at = i as usize;
     let owner = row.owner;

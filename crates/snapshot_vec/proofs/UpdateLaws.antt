@@ -1,5 +1,6 @@
 -- Laws of writes: an entry's, and a row's, first its entry and then its parts. Assumes nothing.
-use Rattle.kit.specs.Names.{◌≡◌, ap, ◌∙◌, List, ℕ, ◌+◌, set, eq-eqb, ne_eqb}
+use Rattle.std.specs.Prelude.{◌≡◌, ◌+◌}
+use Rattle.kit.specs.Names.{ap, ◌∙◌, List, ℕ, set, eq-eqb, ne_eqb}
 use Rattle.rules.specs.Rules.{UndoLog, Row, Value, Rows, Log, row_at, put_crown, put_row, put_entry, Memory, memory, logged, put, push, redirect, crown}
 use Rattle.rules.specs.declared.table.UndoLog.TheVariants.{NewElem, SetElem}
 use Rattle.rules.proofs.RowLaws.{write_redirect, write_crown}

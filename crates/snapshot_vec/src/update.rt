@@ -1,7 +1,7 @@
 // Rows are written here, and logged first where a snapshot is open. Each function returns the log's used length.
 ghost use Rattle.std.specs.Prelude.{◌≡◌};
 ghost use Rattle.rules.specs.declared.table.UndoLog.TheVariants.{SetElem};
-ghost use Rattle.rules.specs.Rules.{Rows, row_at, memory, logged, put, push, redirect, crown, reversed, rows_now, rows_lent, log_lent, memory_lent};
+ghost use Rattle.rules.specs.Rules.{Rows, row_at, memory, logged, put, push, redirect, crown, reversed, rows_lent, memory_lent};
 ghost use Rattle.parts.specs.Bounds.{InRows, Loggable, Undoing};
 
 use rules::table::{Row, UndoLog, Value};
@@ -9,8 +9,7 @@ use rules::table::{Row, UndoLog, Value};
 // Logs an entry, if a snapshot is open.
 pub fn log_entry(log: &mut [u32], opened: u32, used: u32, entry: UndoLog) -> u32
     requires { Loggable opened used log.old }
-    ensures* { let l = log_lent log in
-        λ r. ⌜ ((rows : Rows) → memory rows l.exit opened r ≡ logged entry (memory rows l.entry opened used)) ⌝ }
+    ensures { (rows : Rows) → memory rows log.new opened result ≡ logged entry (memory rows log.old opened used) }
 {
     if opened == 0 {
         return used;
@@ -29,10 +28,11 @@ pub fn log_row(
     used: u32,
     i: u32,
 ) -> u32
-    requires in_rows { InRows i (rows_now parents crowns amounts) }
+    requires in_rows { InRows i (rows_lent parents.now crowns.now amounts.now) }
     requires loggable { Loggable opened used log.old }
-    ensures* { let m = memory_lent parents crowns amounts log in
-        λ r. ⌜ m.exit opened r ≡ logged (SetElem i (row_at (m.entry opened used).rows i)) (m.entry opened used) ⌝ }
+    ensures { let m = memory_lent parents.now crowns.now amounts.now log.old in
+        let after = memory_lent parents.now crowns.now amounts.now log.new in
+        after opened result ≡ logged (SetElem i (row_at (m opened used).rows i)) (m opened used) }
 {
     let old = rows::rows::row_at(parents, crowns, amounts, i);
     log_entry(log, opened, used, UndoLog::SetElem(i, old))
@@ -49,10 +49,11 @@ pub fn redirect(
     key: u32,
     root: u32,
 ) -> u32
-    requires in_rows { InRows key (rows_now parents crowns amounts) }
+    requires in_rows { InRows key (rows_lent parents.old crowns.now amounts.now) }
     requires loggable { Loggable opened used log.old }
-    ensures* { let m = memory_lent parents crowns amounts log in
-        λ r. ⌜ m.exit opened r ≡ put (m.entry opened used) (redirect key root) ⌝ }
+    ensures { let m = memory_lent parents.old crowns.now amounts.now log.old in
+        let after = memory_lent parents.new crowns.now amounts.now log.new in
+        after opened result ≡ put (m opened used) (redirect key root) }
 {
     let more = log_row(parents, crowns, amounts, log, opened, used, key);
     let at = key as usize;
@@ -72,10 +73,11 @@ pub fn crown(
     rank: u32,
     value: Value,
 ) -> u32
-    requires in_rows { InRows key (rows_now parents crowns amounts) }
+    requires in_rows { InRows key (rows_lent parents.now crowns.old amounts.old) }
     requires loggable { Loggable opened used log.old }
-    ensures* { let m = memory_lent parents crowns amounts log in
-        λ r. ⌜ m.exit opened r ≡ put (m.entry opened used) (crown key rank value) ⌝ }
+    ensures { let m = memory_lent parents.now crowns.old amounts.old log.old in
+        let after = memory_lent parents.now crowns.new amounts.new log.new in
+        after opened result ≡ put (m opened used) (crown key rank value) }
 {
     let more = log_row(parents, crowns, amounts, log, opened, used, key);
     let at = key as usize;
@@ -96,10 +98,11 @@ pub fn push(
     key: u32,
     row: Row,
 ) -> u32
-    requires in_rows { InRows key (rows_now parents crowns amounts) }
+    requires in_rows { InRows key (rows_lent parents.old crowns.old amounts.old) }
     requires loggable { Loggable opened used log.old }
-    ensures* { let m = memory_lent parents crowns amounts log in
-        λ r. ⌜ m.exit opened r ≡ push (m.entry opened used) key row ⌝ }
+    ensures { let m = memory_lent parents.old crowns.old amounts.old log.old in
+        let after = memory_lent parents.new crowns.new amounts.new log.new in
+        after opened result ≡ push (m opened used) key row }
 {
     let more = log_entry(log, opened, used, UndoLog::NewElem(key));
     rows::rows::put_row(parents, crowns, amounts, key, row);
@@ -108,8 +111,10 @@ pub fn push(
 
 // Undoes an entry. A new key's row keeps what it holds.
 pub fn reverse(parents: &mut [u32], crowns: &mut [u32], amounts: &mut [u64], entry: UndoLog)
-    requires { Undoing entry (rows_now parents crowns amounts) }
-    ensures* { let rs = rows_lent parents crowns amounts in λ r. ⌜ rs.exit ≡ reversed rs.entry entry ⌝ }
+    requires { Undoing entry (rows_lent parents.old crowns.old amounts.old) }
+    ensures { let rs = rows_lent parents.old crowns.old amounts.old in
+        let after = rows_lent parents.new crowns.new amounts.new in
+        after ≡ reversed rs entry }
 {
     match entry {
         UndoLog::NewElem(_) => {}

@@ -1,4 +1,4 @@
-ghost use Rattle.kit.specs.Names.{◌≡◌, ◌≤◌};
+ghost use Rattle.std.specs.Prelude.{◌≡◌, ◌≤◌};
 ghost use Rattle.rules.specs.Rules.{MAX-OPEN, seek};
 ghost use Rattle.undo_log.specs.Settled.{latest, mark_for};
 
@@ -39,6 +39,7 @@ fn seek(state: State, token: u64) -> Sought
 }
 
 // The mark that a call is about: none where the call names no token, or the state is bad.
+#[tactic(auto, unfolding(undo_log::specs::Settled::mark_for))]
 pub fn mark_for(state: State, call: Call) -> Sought
     ensures { result ≡ mark_for state call }
 {

@@ -1,5 +1,6 @@
 -- The state that a call leaves, written out. Assumes nothing.
-use Rattle.kit.specs.Names.{◌≡◌, ◌≤◌, ◌<◌, length, set, set_out, lt-ltb, le-ltb}
+use Rattle.std.specs.Prelude.{◌≡◌, ◌≤◌, ◌<◌}
+use Rattle.kit.specs.Names.{length, set, set_out, lt-ltb, le-ltb}
 use Rattle.rules.specs.Rules.{State, mark, answered}
 use Rattle.undo_log.specs.declared.tokens.Settled.{Settled}
 use Rattle.undo_log.specs.Settled.{state_with, state_after}

@@ -1,2 +1,4 @@
 // A whole state, by value: its head, and the state that a call leaves.
+#![tactic(auto)]
+
 pub mod state;

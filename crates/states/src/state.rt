@@ -17,6 +17,7 @@ pub fn head_of(state: State) -> Head
 }
 
 // The state that a call leaves: its head and, where it opened a snapshot, the token and the mark.
+#[tactic(auto, unfolding(undo_log::specs::Settled::state_after))]
 pub fn state_after(state: State, settled: Settled) -> Answered
     ensures { result ≡ answered settled.answer (state_after state settled) }
 {

@@ -18,7 +18,9 @@ pub fn call(
     log: &mut [u32],
     call: Call,
 ) -> Answered
-    ensures* { let t = table_lent parents crowns amounts log in λ r. ⌜ outcome_of r t.exit ≡ step (t.entry state) call ⌝ }
+    ensures { let t = table_lent parents.old crowns.old amounts.old log.old in
+        let after = table_lent parents.new crowns.new amounts.new log.new in
+        outcome_of result after ≡ step (t state) call }
 {
     let sought = mark_for(state, call);
     let settled = crate::call::call(
@@ -45,7 +47,8 @@ pub fn rest(
     asked: HeadCall,
 ) -> Answered
     requires { head_call asked ≡ call }
-    ensures* { let t = table_lent parents crowns amounts log in λ r. ⌜ outcome_of r t.exit ≡ step (t.entry state) call ⌝ }
+    ensures { let t = table_lent parents.now crowns.now amounts.now log.now in
+        outcome_of result t ≡ step (t state) call }
 {
     let sought = mark_for(state, call);
     let settled = crate::call::rest(

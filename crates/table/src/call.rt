@@ -1,5 +1,5 @@
-ghost use Rattle.kit.specs.Names.{◌≡◌, false};
-ghost use Rattle.rules.specs.Rules.{sizes_of, bad, rows_now, table_lent};
+ghost use Rattle.std.specs.Prelude.{◌≡◌, false};
+ghost use Rattle.rules.specs.Rules.{sizes_of, bad, rows_lent, table_lent};
 ghost use Rattle.undo_log.specs.HeadCalls.{head_call};
 ghost use Rattle.decisions.specs.Decided.{Carried};
 
@@ -21,8 +21,10 @@ pub fn call_good(
     sought: Sought,
     call: Call,
 ) -> Settled
-    requires { bad (sizes_of (rows_now parents crowns amounts) log.old) head ≡ false }
-    ensures* { let t = table_lent parents crowns amounts log in λ r. ⌜ Carried t.entry t.exit head last sought call r ⌝ }
+    requires { bad (sizes_of (rows_lent parents.old crowns.old amounts.old) log.old) head ≡ false }
+    ensures { let t = table_lent parents.old crowns.old amounts.old log.old in
+        let after = table_lent parents.new crowns.new amounts.new log.new in
+        Carried t after head last sought call result }
 {
     let decision = decide(parents, crowns, amounts, log, head, last, sought, call);
     match decision {
@@ -42,7 +44,9 @@ pub fn call(
     sought: Sought,
     call: Call,
 ) -> Settled
-    ensures* { let t = table_lent parents crowns amounts log in λ r. ⌜ Carried t.entry t.exit head last sought call r ⌝ }
+    ensures { let t = table_lent parents.old crowns.old amounts.old log.old in
+        let after = table_lent parents.new crowns.new amounts.new log.new in
+        Carried t after head last sought call result }
 {
     if bad_state(head, parents.len(), crowns.len(), amounts.len(), log.len()) {
         return refuse_bad(head);
@@ -61,7 +65,8 @@ pub fn rest(
     sought: Sought,
     call: HeadCall,
 ) -> Settled
-    ensures* { let t = table_lent parents crowns amounts log in λ r. ⌜ Carried t.entry t.exit head last sought (head_call call) r ⌝ }
+    ensures { let t = table_lent parents.now crowns.now amounts.now log.now in
+        Carried t t head last sought (head_call call) result }
 {
     if bad_state(head, parents.len(), crowns.len(), amounts.len(), log.len()) {
         return refuse_bad(head);

@@ -1,6 +1,6 @@
-ghost use Rattle.kit.specs.Names.{◌≡◌, false, ℕ};
+ghost use Rattle.std.specs.Prelude.{◌≡◌, false, ℕ};
 ghost use Rattle.rules.specs.declared.call.Call.TheVariants.{Rollback};
-ghost use Rattle.rules.specs.Rules.{Sought, rows_now, rows_lent, log_lent, sizes_of, bad};
+ghost use Rattle.rules.specs.Rules.{Sought, rows_lent, sizes_of, bad};
 ghost use Rattle.decisions.specs.Decided.{Does};
 
 use decisions::todo::{End, Todo, refused};
@@ -19,10 +19,9 @@ pub fn roll_back(
     sought: Sought,
     token: u64,
 ) -> Todo
-    requires { bad (sizes_of (rows_now parents crowns amounts) log.now) head ≡ false }
-    ensures* { let rs = rows_lent parents crowns amounts in
-        let l = log_lent log in
-        λ r. ⌜ ((last : ℕ) → Does rs.entry l.entry head last sought (Rollback token) r) ⌝ }
+    requires { bad (sizes_of (rows_lent parents.now crowns.now amounts.now) log.now) head ≡ false }
+    ensures { let rs = rows_lent parents.now crowns.now amounts.now in
+        (last : ℕ) → Does rs log.now head last sought (Rollback token) result }
 {
     match sought {
         Sought::Missing => refused(NOT_INNERMOST, head),

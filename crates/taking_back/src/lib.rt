@@ -1,2 +1,4 @@
 // A rollback, decided.
+#![tactic(auto)]
+
 pub mod calls;

@@ -1,5 +1,5 @@
 ghost use Rattle.std.specs.Prelude.{ℕ, ◌<◌};
-ghost use Rattle.rules.specs.Rules.{rows_now, rows_lent};
+ghost use Rattle.rules.specs.Rules.{rows_lent};
 ghost use Rattle.parts.specs.Bounds.{InRows};
 ghost use Rattle.plans.specs.Plans.{Inside, MadeOfTwo};
 
@@ -19,9 +19,10 @@ pub fn two_plan(
     b: u32,
     steps: u32,
 ) -> Verdict
-    requires in_rows { InRows a (rows_now parents crowns amounts) }
-    requires in_rows_2 { InRows b (rows_now parents crowns amounts) }
-    ensures* fact { let rs = rows_lent parents crowns amounts in λ r. ⌜ MadeOfTwo rs.entry call a b steps r ⌝ }
+    requires in_rows { InRows a (rows_lent parents.now crowns.now amounts.now) }
+    requires in_rows_2 { InRows b (rows_lent parents.now crowns.now amounts.now) }
+    ensures fact { let rs = rows_lent parents.now crowns.now amounts.now in
+        MadeOfTwo rs call a b steps result }
     ensures by_index { (count : ℕ) → a < count → b < count → Inside count result }
 {
     match call {

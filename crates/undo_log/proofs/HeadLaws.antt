@@ -1,5 +1,6 @@
 -- A call over a head and its mark is document 01's over the state. Assumes nothing.
-use Rattle.kit.specs.Names.{◌≡◌, refl, ap, sym, ◌∙◌, Bool, true, false, cond, ◌||◌, List, ℕ, ◌+◌, ◌≤◌, eqb, ltb, arith, lt-ltb, le-ltb}
+use Rattle.std.specs.Prelude.{◌≡◌, ◌||◌, ◌+◌, ◌≤◌}
+use Rattle.kit.specs.Names.{refl, ap, sym, ◌∙◌, Bool, true, false, cond, List, ℕ, eqb, ltb, arith, lt-ltb, le-ltb}
 use Rattle.rules.specs.Rules.{Answer, Answered, Head, Mark, Sought, State, DONE, NOT-INNERMOST, TOO-DEEP, BROKEN-TABLE, SERIALS-SPENT, NOT-OPEN, MAX-OPEN, MAX-U64}
 use Rattle.rules.specs.Rules.{head, head_of, with_head, refusal, range, said, opened, answered, refuse_state, marked, innermost, not_innermost, unfit, stranded}
 use Rattle.rules.specs.Rules.{committed, seek, snapshot, commit, asked, ask}

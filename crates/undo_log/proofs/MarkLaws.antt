@@ -1,5 +1,6 @@
 -- The mark that a token names, and the one that a call is about. Assumes nothing.
-use Rattle.kit.specs.Names.{◌≡◌, refl, [], ◌∷◌, ℕ, suc, ◌≤◌, ◌<◌, arith, ℕ_discrete, lt-ltb, le-ltb, eq-eqb, ne_eqb}
+use Rattle.std.specs.Prelude.{◌≡◌, ◌∷◌, ◌≤◌, ◌<◌}
+use Rattle.kit.specs.Names.{refl, [], ℕ, suc, arith, ℕ_discrete, lt-ltb, le-ltb, eq-eqb, ne_eqb}
 use types.Run.{OneOf, miss}
 use denote.Enum.Declared.{tag_of}
 use Rattle.rules.specs.Rules.{Call, Mark, State, MAX-OPEN, mark_at, seek}

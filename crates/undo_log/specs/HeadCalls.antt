@@ -1,5 +1,6 @@
 -- The calls that neither read nor write rows and entries: over a state, as document 01 has them, and over a head.
-use Rattle.kit.specs.Names.{◌||◌, ℕ, ◌+◌, eqb, ltb}
+use Rattle.std.specs.Prelude.{◌||◌, ◌+◌}
+use Rattle.kit.specs.Names.{ℕ, eqb, ltb}
 use Rattle.rules.specs.Rules.{Answer, Answered, Call, Head, Mark, Sought, State, DONE, NOT-INNERMOST, TOO-DEEP, BROKEN-TABLE, SERIALS-SPENT, NOT-OPEN, MAX-OPEN}
 use Rattle.rules.specs.Rules.{MAX-U64, head, refusal, said, range, opened, unfit, stranded, committed, len, snapshot, commit, keys_since, actions_since, has_changes}
 use Rattle.rules.specs.declared.call.Call.TheVariants as call

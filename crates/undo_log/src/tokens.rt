@@ -1,5 +1,5 @@
 // len, snapshot and commit over a head, the last serial and the mark in question.
-ghost use Rattle.kit.specs.Names.{◌≡◌, ◌-◌, ◌≤◌};
+ghost use Rattle.std.specs.Prelude.{◌≡◌, ◌-◌, ◌≤◌};
 ghost use Rattle.rules.specs.Rules.{MAX-OPEN, refusal, range, stranded, committed};
 ghost use Rattle.undo_log.specs.Settled.{settled};
 ghost use Rattle.undo_log.specs.HeadCalls.{snapshot_on, commit_on};
@@ -13,7 +13,7 @@ use rules::numbers::{
 use rules::table::{Head, Mark, Sought};
 
 // What a call answers, and the head that it leaves.
-#[derive(Drop)]
+#[derive(Clone, Copy)]
 pub struct Settled {
     pub answer: Answer,
     pub head: Head,

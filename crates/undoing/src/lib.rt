@@ -1,2 +1,4 @@
 // What a rollback undoes, once it is judged.
+#![tactic(auto)]
+
 pub mod undo;

@@ -1,6 +1,6 @@
 // The entries since a snapshot, undone newest first.
-ghost use Rattle.kit.specs.Names.{◌≡◌, ◌-◌, ◌≤◌};
-ghost use Rattle.rules.specs.Rules.{newest_first, undo, rows_now, rows_lent, log_lent};
+ghost use Rattle.std.specs.Prelude.{◌≡◌, ◌-◌, ◌≤◌};
+ghost use Rattle.rules.specs.Rules.{newest_first, undo, rows_lent};
 ghost use Rattle.rollback.specs.Since.{Logged, Reversible};
 
 use parts::entries::entry_at;
@@ -17,10 +17,10 @@ pub fn undo(
 )
     requires base_le_used { base ≤ used }
     requires logged { Logged used log.now }
-    requires reversible { Reversible (rows_now parents crowns amounts) (newest_first log.now base (used - base)) }
-    ensures* { let rs = rows_lent parents crowns amounts in
-        let l = log_lent log in
-        λ r. ⌜ rs.exit ≡ undo rs.entry (newest_first l.entry base (used - base)) ⌝ }
+    requires reversible { Reversible (rows_lent parents.old crowns.old amounts.old) (newest_first log.now base (used - base)) }
+    ensures { let rs = rows_lent parents.old crowns.old amounts.old in
+        let after = rows_lent parents.new crowns.new amounts.new in
+        after ≡ undo rs (newest_first log.now base (used - base)) }
 {
     let mut left = used - base;
     while left > 0 {

@@ -1,7 +1,7 @@
 -- No two outcomes meet a call's contract: the answer, the state handed back and every lent list at exit are fixed by the table at
 -- entry. One statement for all calls, since each has the same equation. Assumes nothing.
 use mathlib.Core.Path.{◌≡◌, sym, ap, ◌∙◌}
-use Rattle.rules.specs.Rules.{Answer, Answered, Call, Rows, Log, Table, table, Outcome, outcome_of, step}
+use Rattle.rules.specs.Rules.{Answered, Call, Rows, Log, Table, table, Outcome, outcome_of, step}
 
 pub record Same (r r' : Answered) (rs rs' : Rows) (l l' : Log) : Type 0 where
   pub answers : r.answer ≡ r'.answer

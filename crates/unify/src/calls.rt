@@ -18,7 +18,9 @@ pub fn new_key(
     owner: u32,
     amount: u64,
 ) -> Answered
-    ensures* { let t = table_lent parents crowns amounts log in λ r. ⌜ outcome_of r t.exit ≡ step (t.entry state) (New owner amount) ⌝ }
+    ensures { let t = table_lent parents.old crowns.old amounts.old log.old in
+        let after = table_lent parents.new crowns.new amounts.new log.new in
+        outcome_of result after ≡ step (t state) (New owner amount) }
 {
     call(
         state,
@@ -39,7 +41,9 @@ pub fn find(
     log: &mut [u32],
     key: u32,
 ) -> Answered
-    ensures* { let t = table_lent parents crowns amounts log in λ r. ⌜ outcome_of r t.exit ≡ step (t.entry state) (Find key) ⌝ }
+    ensures { let t = table_lent parents.old crowns.old amounts.old log.old in
+        let after = table_lent parents.new crowns.new amounts.new log.new in
+        outcome_of result after ≡ step (t state) (Find key) }
 {
     call(state, parents, crowns, amounts, log, Call::Find(key))
 }
@@ -54,7 +58,9 @@ pub fn unioned(
     a: u32,
     b: u32,
 ) -> Answered
-    ensures* { let t = table_lent parents crowns amounts log in λ r. ⌜ outcome_of r t.exit ≡ step (t.entry state) (Unioned a b) ⌝ }
+    ensures { let t = table_lent parents.old crowns.old amounts.old log.old in
+        let after = table_lent parents.new crowns.new amounts.new log.new in
+        outcome_of result after ≡ step (t state) (Unioned a b) }
 {
     call(state, parents, crowns, amounts, log, Call::Unioned(a, b))
 }
@@ -69,7 +75,9 @@ pub fn unify_var_var(
     a: u32,
     b: u32,
 ) -> Answered
-    ensures* { let t = table_lent parents crowns amounts log in λ r. ⌜ outcome_of r t.exit ≡ step (t.entry state) (Join a b) ⌝ }
+    ensures { let t = table_lent parents.old crowns.old amounts.old log.old in
+        let after = table_lent parents.new crowns.new amounts.new log.new in
+        outcome_of result after ≡ step (t state) (Join a b) }
 {
     call(state, parents, crowns, amounts, log, Call::Join(a, b))
 }
@@ -85,7 +93,9 @@ pub fn unify_var_value(
     owner: u32,
     amount: u64,
 ) -> Answered
-    ensures* { let t = table_lent parents crowns amounts log in λ r. ⌜ outcome_of r t.exit ≡ step (t.entry state) (Post key owner amount) ⌝ }
+    ensures { let t = table_lent parents.old crowns.old amounts.old log.old in
+        let after = table_lent parents.new crowns.new amounts.new log.new in
+        outcome_of result after ≡ step (t state) (Post key owner amount) }
 {
     call(
         state,
@@ -106,7 +116,9 @@ pub fn probe_value(
     log: &mut [u32],
     key: u32,
 ) -> Answered
-    ensures* { let t = table_lent parents crowns amounts log in λ r. ⌜ outcome_of r t.exit ≡ step (t.entry state) (Probe key) ⌝ }
+    ensures { let t = table_lent parents.old crowns.old amounts.old log.old in
+        let after = table_lent parents.new crowns.new amounts.new log.new in
+        outcome_of result after ≡ step (t state) (Probe key) }
 {
     call(state, parents, crowns, amounts, log, Call::Probe(key))
 }
@@ -120,7 +132,9 @@ pub fn inlined_probe_key_value(
     log: &mut [u32],
     key: u32,
 ) -> Answered
-    ensures* { let t = table_lent parents crowns amounts log in λ r. ⌜ outcome_of r t.exit ≡ step (t.entry state) (ProbeKey key) ⌝ }
+    ensures { let t = table_lent parents.old crowns.old amounts.old log.old in
+        let after = table_lent parents.new crowns.new amounts.new log.new in
+        outcome_of result after ≡ step (t state) (ProbeKey key) }
 {
     call(state, parents, crowns, amounts, log, Call::ProbeKey(key))
 }
@@ -134,7 +148,9 @@ pub fn try_probe_value(
     log: &mut [u32],
     key: u32,
 ) -> Answered
-    ensures* { let t = table_lent parents crowns amounts log in λ r. ⌜ outcome_of r t.exit ≡ step (t.entry state) (TryProbe key) ⌝ }
+    ensures { let t = table_lent parents.old crowns.old amounts.old log.old in
+        let after = table_lent parents.new crowns.new amounts.new log.new in
+        outcome_of result after ≡ step (t state) (TryProbe key) }
 {
     call(state, parents, crowns, amounts, log, Call::TryProbe(key))
 }
@@ -148,14 +164,17 @@ pub fn rollback_to(
     log: &mut [u32],
     token: u64,
 ) -> Answered
-    ensures* { let t = table_lent parents crowns amounts log in λ r. ⌜ outcome_of r t.exit ≡ step (t.entry state) (Rollback token) ⌝ }
+    ensures { let t = table_lent parents.old crowns.old amounts.old log.old in
+        let after = table_lent parents.new crowns.new amounts.new log.new in
+        outcome_of result after ≡ step (t state) (Rollback token) }
 {
     call(state, parents, crowns, amounts, log, Call::Rollback(token))
 }
 
 // How many keys there are.
 pub fn len(state: State, parents: &[u32], crowns: &[u32], amounts: &[u64], log: &[u32]) -> Answered
-    ensures* { let t = table_lent parents crowns amounts log in λ r. ⌜ outcome_of r t.exit ≡ step (t.entry state) Len ⌝ }
+    ensures { let t = table_lent parents.now crowns.now amounts.now log.now in
+        outcome_of result t ≡ step (t state) Len }
 {
     rest(
         state,
@@ -176,7 +195,8 @@ pub fn snapshot(
     amounts: &[u64],
     log: &[u32],
 ) -> Answered
-    ensures* { let t = table_lent parents crowns amounts log in λ r. ⌜ outcome_of r t.exit ≡ step (t.entry state) Snapshot ⌝ }
+    ensures { let t = table_lent parents.now crowns.now amounts.now log.now in
+        outcome_of result t ≡ step (t state) Snapshot }
 {
     rest(
         state,
@@ -198,7 +218,8 @@ pub fn commit(
     log: &[u32],
     token: u64,
 ) -> Answered
-    ensures* { let t = table_lent parents crowns amounts log in λ r. ⌜ outcome_of r t.exit ≡ step (t.entry state) (Commit token) ⌝ }
+    ensures { let t = table_lent parents.now crowns.now amounts.now log.now in
+        outcome_of result t ≡ step (t state) (Commit token) }
 {
     rest(
         state,
@@ -220,7 +241,8 @@ pub fn vars_since_snapshot(
     log: &[u32],
     token: u64,
 ) -> Answered
-    ensures* { let t = table_lent parents crowns amounts log in λ r. ⌜ outcome_of r t.exit ≡ step (t.entry state) (Keys token) ⌝ }
+    ensures { let t = table_lent parents.now crowns.now amounts.now log.now in
+        outcome_of result t ≡ step (t state) (Keys token) }
 {
     rest(
         state,
@@ -242,7 +264,8 @@ pub fn actions_since_snapshot(
     log: &[u32],
     token: u64,
 ) -> Answered
-    ensures* { let t = table_lent parents crowns amounts log in λ r. ⌜ outcome_of r t.exit ≡ step (t.entry state) (Actions token) ⌝ }
+    ensures { let t = table_lent parents.now crowns.now amounts.now log.now in
+        outcome_of result t ≡ step (t state) (Actions token) }
 {
     rest(
         state,
@@ -264,7 +287,8 @@ pub fn has_changes(
     log: &[u32],
     token: u64,
 ) -> Answered
-    ensures* { let t = table_lent parents crowns amounts log in λ r. ⌜ outcome_of r t.exit ≡ step (t.entry state) (Changes token) ⌝ }
+    ensures { let t = table_lent parents.now crowns.now amounts.now log.now in
+        outcome_of result t ≡ step (t state) (Changes token) }
 {
     rest(
         state,

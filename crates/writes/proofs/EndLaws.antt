@@ -1,5 +1,6 @@
 -- What is written is used of the log. Assumes nothing.
-use Rattle.kit.specs.Names.{◌≡◌, ap, ◌∙◌, ℕ}
+use Rattle.std.specs.Prelude.{◌≡◌}
+use Rattle.kit.specs.Names.{ap, ◌∙◌, ℕ}
 use Rattle.rules.specs.Rules.{Call, Head, Row, Sought, Value, Rows, Log, table, row, head, Memory, push, puts}
 use Rattle.undo_log.specs.declared.tokens.Settled.{Settled}
 use Rattle.undo_log.specs.Settled.{settled, state_with}

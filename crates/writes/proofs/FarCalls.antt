@@ -1,5 +1,6 @@
 -- A long walk's plan carried out is the rules' step. Assumes nothing.
-use Rattle.kit.specs.Names.{◌≡◌, ap, sym, ◌∙◌, ◌++◌, ℕ, arith}
+use Rattle.std.specs.Prelude.{◌≡◌, ◌++◌}
+use Rattle.kit.specs.Names.{ap, sym, ◌∙◌, ℕ, arith}
 use Rattle.rules.specs.Rules.{Answer, Call, Head, State, Rows, Log, table, head, refusal, Memory, memory, with_memory, puts, outcome}
 use Rattle.undo_log.specs.declared.tokens.Settled.{Settled}
 use Rattle.undo_log.specs.Settled.{settled, state_with}

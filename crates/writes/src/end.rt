@@ -1,5 +1,5 @@
 ghost use Rattle.std.specs.Prelude.{◌≡◌};
-ghost use Rattle.rules.specs.Rules.{rows_now, rows_lent, log_lent};
+ghost use Rattle.rules.specs.Rules.{rows_lent};
 ghost use Rattle.decisions.specs.End.{ended_with, end_by, Endable};
 
 use decisions::todo::{End, Todo, new_row, with_used};
@@ -14,10 +14,10 @@ pub fn end(
     count: u32,
     todo: Todo,
 ) -> Settled
-    requires { Endable count (rows_now parents crowns amounts) log.old todo }
-    ensures* { let rs = rows_lent parents crowns amounts in
-        let l = log_lent log in
-        λ r. ⌜ ended_with rs.exit l.exit r ≡ end_by rs.entry l.entry todo ⌝ }
+    requires { Endable count (rows_lent parents.old crowns.old amounts.old) log.old todo }
+    ensures { let rs = rows_lent parents.old crowns.old amounts.old in
+        let after = rows_lent parents.new crowns.new amounts.new in
+        ended_with after log.new result ≡ end_by rs log.old todo }
 {
     let settled = todo.settled;
     let head = settled.head;

@@ -1,5 +1,5 @@
-ghost use Rattle.kit.specs.Names.{◌≡◌, false};
-ghost use Rattle.rules.specs.Rules.{rows_now, table_lent, sizes_of, bad};
+ghost use Rattle.std.specs.Prelude.{◌≡◌, false};
+ghost use Rattle.rules.specs.Rules.{rows_lent, table_lent, sizes_of, bad};
 ghost use Rattle.decisions.specs.Sorted.{walk_call, LiveKeys};
 ghost use Rattle.decisions.specs.Decided.{FarCarried};
 
@@ -19,10 +19,11 @@ pub fn far(
     head: Head,
     call: WalkCall,
 ) -> Settled
-    requires head_value { bad (sizes_of (rows_now parents crowns amounts) log.old) head ≡ false }
+    requires head_value { bad (sizes_of (rows_lent parents.old crowns.old amounts.old) log.old) head ≡ false }
     requires live_keys { LiveKeys head.count call }
-    ensures* { let t = table_lent parents crowns amounts log in
-        λ r. ⌜ FarCarried t.entry t.exit head (walk_call call) r ⌝ }
+    ensures { let t = table_lent parents.old crowns.old amounts.old log.old in
+        let after = table_lent parents.new crowns.new amounts.new log.new in
+        FarCarried t after head (walk_call call) result }
 {
     let plan = far_plan(parents, crowns, amounts, log, head, call);
     let verdict = plan.verdict;

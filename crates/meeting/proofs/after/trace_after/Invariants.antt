@@ -1,0 +1,23 @@
+-- The walk's rows so far, and the path from there in the table as the first walk leaves it, are the path of the key; the inner loop
+-- has met none of the first path's rows.
+use Rattle.std.proofs.Common.{◌≡◌, ℕ, ◌≤◌, ◌<◌, ◌-◌, length, get_or, take}
+use Rattle.rules.specs.Rules.{path}
+use Rattle.roots.specs.Trail.{compress}
+use Rattle.roots.proofs.PathLaws.{along}
+use Rattle.meeting.proofs.after.trace_after.Given as goal
+
+abbrev pub invariant-walk : goal.invariant-walk
+invariant-walk l =
+    (l.steps ≤ 16)
+    × (length l.nodes ≡ 17)
+    × (path (compress l.root (take l.end l.passed) l.parents) l.count 16 l.key
+    ≡ along (take l.steps l.nodes) (path (compress l.root (take l.end l.passed) l.parents) l.count (16 - l.steps) l.at))
+
+abbrev pub decreases-walk : goal.decreases-walk
+decreases-walk l = 16 - l.steps
+
+abbrev pub invariant-loop-j : goal.invariant-loop-j
+invariant-loop-j l = (l.j ≤ l.end) × ((i : ℕ) → i < l.j → get_or l.passed i 0 ≡ l.at → ⊥)
+
+abbrev pub decreases-loop-j : goal.decreases-loop-j
+decreases-loop-j l = l.end - l.j
