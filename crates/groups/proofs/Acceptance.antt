@@ -1,5 +1,6 @@
 -- What a table answers DONE: where there is room, the groups alone decide.
-use Rattle.kit.specs.Names.{◌≡◌, refl, sym, ap, ◌∙◌, subst, true, false, List, [], ◌∷◌, ◌≢◌, ℕ, ◌+◌, ◌-◌, ◌≤◌, ◌<◌, length, eqb, arith, eqb-false}
+use Rattle.std.specs.Prelude.{◌≡◌, ◌∷◌, ◌≢◌, ◌+◌, ◌-◌, ◌≤◌, ◌<◌}
+use Rattle.kit.specs.Names.{refl, sym, ap, ◌∙◌, subst, true, false, List, [], ℕ, length, eqb, arith, eqb-false}
 use Rattle.kit.specs.Names.{eq-eqb, ne_eqb, lt-leb, le-ltb}
 use Rattle.rules.specs.Rules.{Call, Answer, Value, Mark, DONE, MAX-OPEN, MAX-U64, Rows, Table, entries, value, owner_of, refusal, found, opened}
 use Rattle.rules.specs.Rules.{memory_of, full, innermost, Plan, walk, walk_both, join_on, post_on, carry, call, step}

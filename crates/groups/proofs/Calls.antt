@@ -1,5 +1,6 @@
 -- Every call keeps what a table stands for, and is never answered BROKEN_TABLE or BAD_STATE; and a fresh table stands for nothing yet.
-use Rattle.kit.specs.Names.{◌≡◌, refl, false, List, [], ◌∷◌, ℕ, zero-le, ltb, arith}
+use Rattle.std.specs.Prelude.{◌≡◌, ◌∷◌}
+use Rattle.kit.specs.Names.{refl, false, List, [], ℕ, zero-le, ltb, arith}
 use Rattle.rules.specs.Rules.{Call, Rows, Log, Table, table, value, owner_of, fresh, head_of, said, range, find_on, unioned_on, join_on, post_on, probe_on, probe_key_on}
 use Rattle.rules.specs.Rules.{try_probe, sizes_of, bad_table, call, step}
 use Rattle.rules.specs.declared.call.Call.TheVariants.{New, Len, Find, Unioned, Join, Post, Probe, ProbeKey, TryProbe, Snapshot, Rollback, Commit, Keys, Actions, Changes}

@@ -1,5 +1,6 @@
 -- Rows that show groups: what a compression, a join, a post and a new key keep of that.
-use Rattle.kit.specs.Names.{◌≡◌, refl, sym, ap, ◌∙◌, subst, subst⁻¹, fun_ext, ◌≢◌, ℕ, suc, ◌≤◌, ◌<◌, arith, le_refl, le_step, le_trans, le_of_eq, not-suc-le-zero}
+use Rattle.std.specs.Prelude.{◌≡◌, ◌≢◌, ◌≤◌, ◌<◌}
+use Rattle.kit.specs.Names.{refl, sym, ap, ◌∙◌, subst, subst⁻¹, fun_ext, ℕ, suc, arith, le_refl, le_step, le_trans, le_of_eq, not-suc-le-zero}
 use Rattle.rules.specs.Rules.{Value, Row, Rows, row, value_of, row_at}
 use Rattle.groups.specs.Groups.{Groups, no_groups, created, at, shift, hung, group_step}
 use Rattle.groups.specs.Stands.{up, high, LeadsTo, here, along, Shows, Alike}

@@ -1,5 +1,6 @@
 -- What a call takes up, in any table whatever: at most 32 entries of the log and one serial. What is lent keeps its lengths.
-use Rattle.kit.specs.Names.{◌≡◌, refl, ◌∙◌, Bool, true, false, not, ◌||◌, List, [], ◌∷◌, ◌++◌, ℕ, zero, suc, ◌+◌, ◌-◌, ◌≤◌, length, length-set}
+use Rattle.std.specs.Prelude.{◌≡◌, ◌||◌, ◌∷◌, ◌++◌, ◌+◌, ◌-◌, ◌≤◌}
+use Rattle.kit.specs.Names.{refl, ◌∙◌, Bool, true, false, not, List, [], ℕ, zero, suc, length, length-set}
 use Rattle.kit.specs.Names.{length-append, get_or, eqb, ltb, arith, le_refl, ltb-false}
 use Rattle.rules.specs.Rules.{Call, UndoLog, Mark, Answer, Value, Merged, Sought, Head, MAX-REDIRECTS, MAX-OPEN, MAX-U64, Rows, Table, value_of, row_at}
 use Rattle.rules.specs.Rules.{put_row, head_of, value, owner_of, range, said, Path, broken, to, from, path, Write, redirect, Memory, put, puts, memory_of}

@@ -1,5 +1,6 @@
 -- What it is that a call keeps; and what every call does that moves nothing but rows and log.
-use Rattle.kit.specs.Names.{◌≡◌, refl, false, List, ◌∷◌, ◌++◌, ℕ, ◌≤◌, length, eqb}
+use Rattle.std.specs.Prelude.{◌≡◌, ◌∷◌, ◌++◌, ◌≤◌}
+use Rattle.kit.specs.Names.{refl, false, List, ℕ, length, eqb}
 use Rattle.rules.specs.Rules.{Call, Answer, DONE, BROKEN-TABLE, BAD-STATE, MAX-OPEN, Rows, Log, Table, table, mark_at, head, with_head, WideRows, refusal, Outcome}
 use Rattle.rules.specs.Rules.{outcome, refused}
 use Rattle.groups.specs.Groups.{Deed}

@@ -1,5 +1,6 @@
 -- The plan of each call on rows: carried out, it moves the groups as the groups' own step says, and it is never BROKEN_TABLE.
-use Rattle.kit.specs.Names.{◌≡◌, refl, sym, ap, ap₂, ◌∙◌, subst, subst⁻¹, true, false, cond, List, [], ◌∷◌, ◌++◌, ◌≢◌, ◌⊎◌, inl, inr, ℕ, ◌+◌, ◌≤◌, ◌<◌, eqb, ltb, arith, eqb-true, eqb-false, eq-eqb}
+use Rattle.std.specs.Prelude.{◌≡◌, ◌∷◌, ◌++◌, ◌≢◌, ◌⊎◌, ◌+◌, ◌≤◌, ◌<◌}
+use Rattle.kit.specs.Names.{refl, sym, ap, ap₂, ◌∙◌, subst, subst⁻¹, true, false, cond, List, [], inl, inr, ℕ, eqb, ltb, arith, eqb-true, eqb-false, eq-eqb}
 use Rattle.kit.specs.Names.{ne_eqb, le-ltb}
 use Rattle.rules.specs.Rules.{Call, Answer, Value, Row, Merged, DONE, BROKEN-TABLE, BAD-STATE, MAX-RANK, Rows, value, owner_of, row, value_of, row_at, put_row, WideRows}
 use Rattle.rules.specs.Rules.{merge, Write, redirect, crown, edit, writes, stepped, found, Plan, plan, Walked, walked_on, go_on, walk, walk_both, settle, unite}

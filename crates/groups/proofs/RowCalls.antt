@@ -1,5 +1,6 @@
 -- Calls on rows, and a new key: a table that stands for a history stands for it with the call.
-use Rattle.kit.specs.Names.{◌≡◌, refl, sym, ◌∙◌, subst, false, ◌∷◌, ◌≢◌, ℕ, ◌+◌, ◌-◌, ◌≤◌, ◌<◌, length, eqb, ltb, leb, arith, eqb-false, eq-eqb, ne_eqb, ltb-false, leb-false}
+use Rattle.std.specs.Prelude.{◌≡◌, ◌∷◌, ◌≢◌, ◌+◌, ◌-◌, ◌≤◌, ◌<◌}
+use Rattle.kit.specs.Names.{refl, sym, ◌∙◌, subst, false, ℕ, length, eqb, ltb, leb, arith, eqb-false, eq-eqb, ne_eqb, ltb-false, leb-false}
 use Rattle.rules.specs.Rules.{Call, Value, Rows, Table, entries, value, owner_of, row, put_row, mark_at, WideRows, found, memory_of, logged, full, puts, writes, Plan}
 use Rattle.rules.specs.Rules.{Walked, walk, walk_both, undoable, refused, carry, new, live, one, two}
 use Rattle.rules.specs.declared.call.Call.TheVariants.{New}

@@ -1,5 +1,6 @@
 -- The central law: the groups that a table shows are those of the deeds that survive of its history, alone and in their order.
-use Rattle.kit.specs.Names.{◌≡◌, sym, ap, ◌∙◌, subst, ◌∷◌, ◌++◌, ℕ, ◌^◌, ◌≤◌, ◌<◌}
+use Rattle.std.specs.Prelude.{◌≡◌, ◌∷◌, ◌++◌, ◌^◌, ◌≤◌, ◌<◌}
+use Rattle.kit.specs.Names.{sym, ap, ◌∙◌, subst, ℕ}
 use Rattle.rules.specs.Rules.{Call, MAX-REDIRECTS, Table, to, path, step}
 use Rattle.groups.specs.Sums.{Credits, total, ones, size}
 use Rattle.groups.specs.Groups.{Groups, replay}

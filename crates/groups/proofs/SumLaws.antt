@@ -1,5 +1,6 @@
 -- Sums over a group: what a join of two groups does to them, and what they cannot exceed.
-use Rattle.kit.specs.Names.{◌≡◌, refl, sym, ap, ap₂, cond, [], ◌∷◌, ◌≢◌, ℕ, zero, suc, ◌+◌, ◌≤◌, ◌<◌, zero-le, eqb, arith, le_refl, le_step, eq-eqb, ne_eqb}
+use Rattle.std.specs.Prelude.{◌≡◌, ◌∷◌, ◌≢◌, ◌+◌, ◌≤◌, ◌<◌}
+use Rattle.kit.specs.Names.{refl, sym, ap, ap₂, cond, [], ℕ, zero, suc, zero-le, eqb, arith, le_refl, le_step, eq-eqb, ne_eqb}
 use Rattle.groups.specs.Sums.{Credits, due, total, ones, size}
 use Rattle.groups.specs.Groups.{at, shift}
 use Rattle.groups.proofs.Tools.{by_same}

@@ -1,5 +1,6 @@
 -- Snapshots, rollbacks, commits and questions: a table that stands for a history stands for it with the call.
-use Rattle.kit.specs.Names.{◌≡◌, refl, sym, ap, ◌∙◌, subst, false, List, [], ◌∷◌, ◌≢◌, ℕ, zero, suc, ◌+◌, ◌-◌, ◌≤◌, ◌<◌, zero-le, length, length-set, eqb, get_or-set_same, get_or-set_other, arith}
+use Rattle.std.specs.Prelude.{◌≡◌, ◌∷◌, ◌≢◌, ◌+◌, ◌-◌, ◌≤◌, ◌<◌}
+use Rattle.kit.specs.Names.{refl, sym, ap, ◌∙◌, subst, false, List, [], ℕ, zero, suc, zero-le, length, length-set, eqb, get_or-set_same, get_or-set_other, arith}
 use Rattle.kit.specs.Names.{le_refl, eqb-true, eqb-false, eq-eqb, ne_eqb, le-ltb}
 use Rattle.rules.specs.Rules.{Call, Answer, Mark, State, UndoLog, DONE, MAX-OPEN, MAX-U64, Table, table, mark, mark_at, head, head_of, with_head, Rows, row_at, WideRows}
 use Rattle.rules.specs.Rules.{refusal, marked, innermost, seek, unfit, stranded, snapshot, committed, commit, asked, ask, newest_first, since, undoable, undo}

@@ -1,5 +1,6 @@
 -- Cases: on a test, on whether two numbers are the same.
-use Rattle.kit.specs.Names.{◌≡◌, refl, Bool, true, false, cond, ◌≢◌, ◌⊎◌, inl, inr, ℕ, suc, ◌<◌, eqb, arith, eqb-true, eqb-false}
+use Rattle.std.specs.Prelude.{◌≡◌, ◌≢◌, ◌⊎◌, ◌<◌}
+use Rattle.kit.specs.Names.{refl, Bool, true, false, cond, inl, inr, ℕ, suc, eqb, arith, eqb-true, eqb-false}
 
 pub cases : {P : Type 0} (b : Bool) → (b ≡ true → P) → (b ≡ false → P) → P
 cases true f g = f refl

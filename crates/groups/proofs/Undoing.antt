@@ -1,6 +1,7 @@
 -- The undo log: undoing down to a mark gives back the very rows below the count that the mark was taken over, and what is logged
 -- keeps it so.
-use Rattle.kit.specs.Names.{◌≡◌, refl, sym, ap, ◌∙◌, true, true≢false, and-eq-true_iff, List, [], ◌∷◌, ◌++◌, ◌≢◌, ℕ, zero, suc, ◌+◌, ◌-◌, ◌*◌, ◌≤◌, ◌<◌, length, eqb, ltb, arith, le_refl, eqb-true}
+use Rattle.std.specs.Prelude.{◌≡◌, ◌∷◌, ◌++◌, ◌≢◌, ◌+◌, ◌-◌, ◌*◌, ◌≤◌, ◌<◌}
+use Rattle.kit.specs.Names.{refl, sym, ap, ◌∙◌, true, true≢false, and-eq-true_iff, List, [], ℕ, zero, suc, length, eqb, ltb, arith, le_refl, eqb-true}
 use Rattle.kit.specs.Names.{ltb-true, eq-eqb, ne_eqb, lt-ltb}
 use Rattle.rules.specs.Rules.{UndoLog, Mark, Row, ENTRY, Rows, Log, row_at, put_row, entry_at, put_entry, WideRows, WideLog, Write, place, write, Memory, logged, put}
 use Rattle.rules.specs.Rules.{puts, newest_first, undoable, reversed, undo}

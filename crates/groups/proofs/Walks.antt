@@ -1,5 +1,6 @@
 -- The walk of the rules: it ends at the key's root within 16 redirects, and what it rewrites leaves the groups as they are.
-use Rattle.kit.specs.Names.{◌≡◌, refl, sym, ap, ◌∙◌, subst, List, [], ◌∷◌, ◌++◌, ◌≢◌, ℕ, zero, suc, ◌+◌, ◌^◌, ◌≤◌, ◌<◌, length, get_or, arith, le_trans, eq-eqb, ne_eqb, lt-ltb}
+use Rattle.std.specs.Prelude.{◌≡◌, ◌∷◌, ◌++◌, ◌≢◌, ◌+◌, ◌^◌, ◌≤◌, ◌<◌}
+use Rattle.kit.specs.Names.{refl, sym, ap, ◌∙◌, subst, List, [], ℕ, zero, suc, length, get_or, arith, le_trans, eq-eqb, ne_eqb, lt-ltb}
 use lib.Pow.{pow_mono}
 use Rattle.rules.specs.Rules.{Row, MAX-ROWS, MAX-REDIRECTS, Rows, row, value_of, row_at, put_row, WideRows, to, from, path, Write, redirect, place, edit, write, writes}
 use Rattle.rules.specs.Rules.{rewrites}

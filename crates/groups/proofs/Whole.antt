@@ -1,6 +1,7 @@
 -- What holds of the groups that accepted deeds make: each key has a live root that is its own root, and a root of rank r has at least
 -- 2^r keys in its group.
-use Rattle.kit.specs.Names.{◌≡◌, refl, sym, ap, ◌∙◌, subst⁻¹, cond, List, [], ◌∷◌, ◌≢◌, ◌⊎◌, inl, inr, ℕ, suc, ◌+◌, ◌^◌, ◌≤◌, ◌<◌, ltb, lit<, arith, add-one, le_refl, le_trans, lt_of_not-le}
+use Rattle.std.specs.Prelude.{◌≡◌, ◌∷◌, ◌≢◌, ◌⊎◌, ◌+◌, ◌^◌, ◌≤◌, ◌<◌}
+use Rattle.kit.specs.Names.{refl, sym, ap, ◌∙◌, subst⁻¹, cond, List, [], inl, inr, ℕ, suc, ltb, lit<, arith, add-one, le_refl, le_trans, lt_of_not-le}
 use Rattle.kit.specs.Names.{not-le_of_lt, le_of_suc-le-suc, not-suc-le-zero, eq-eqb, ne_eqb, ltb-true, ltb-false}
 use lib.Pow.{pow_mono}
 use Rattle.rules.specs.Rules.{Value, merge, MAX-ROWS, MAX-RANK}

@@ -1,5 +1,6 @@
 -- Which calls ask for which deeds, and when a table has room for what a call writes: all that a table adds to what its groups accept.
-use Rattle.kit.specs.Names.{◌≢◌, ℕ, ◌+◌, ◌≤◌, ◌<◌, length}
+use Rattle.std.specs.Prelude.{◌≢◌, ◌+◌, ◌≤◌, ◌<◌}
+use Rattle.kit.specs.Names.{ℕ, length}
 use Rattle.rules.specs.Rules.{Call, Table, entries, value, owner_of}
 use Rattle.rules.specs.declared.call.Call.TheVariants.{New, Join, Post}
 use Rattle.groups.specs.Groups.{Deed, created, joined, posted}

@@ -1,5 +1,6 @@
 -- Document 01, "The meter's table", without parents and without a log: what a creation, a join and a post make of the groups.
-use Rattle.kit.specs.Names.{◌≡◌, cond, List, [], ◌∷◌, ◌⊎◌, ℕ, suc, ◌+◌, ◌<◌, eqb, ltb}
+use Rattle.std.specs.Prelude.{◌≡◌, ◌∷◌, ◌⊎◌, ◌+◌, ◌<◌}
+use Rattle.kit.specs.Names.{cond, List, [], ℕ, suc, eqb, ltb}
 use Rattle.rules.specs.Rules.{Value, Merged, none, merge}
 use Rattle.rules.specs.declared.table.Merged.TheVariants.{Clash, TooMuch, Both}
 

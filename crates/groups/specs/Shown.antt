@@ -1,5 +1,6 @@
 -- The groups that a table shows, read off it by the walk of the rules.
-use Rattle.kit.specs.Names.{◌≡◌, List, [], ℕ, ◌<◌}
+use Rattle.std.specs.Prelude.{◌≡◌, ◌<◌}
+use Rattle.kit.specs.Names.{List, [], ℕ}
 use Rattle.rules.specs.Rules.{MAX-REDIRECTS, Table, value_of, row_at, Path, broken, to, path, steps}
 use Rattle.groups.specs.Groups.{Groups}
 

@@ -1,6 +1,7 @@
 -- When a table stands for a history: its rows show the groups after the deeds that survive, and its log leads back from snapshot to
 -- snapshot to rows that show the groups as each was taken.
-use Rattle.kit.specs.Names.{◌≡◌, true, List, [], ◌∷◌, ◌≢◌, ℕ, ◌-◌, ◌≤◌, ◌<◌, length}
+use Rattle.std.specs.Prelude.{◌≡◌, ◌∷◌, ◌≢◌, ◌-◌, ◌≤◌, ◌<◌}
+use Rattle.kit.specs.Names.{true, List, [], ℕ, length}
 use Rattle.rules.specs.Rules.{UndoLog, Mark, MAX-ROWS, MAX-ENTRIES, MAX-OPEN, Rows, Log, Table, value_of, row_at, mark_at, WideRows, WideLog, newest_first, undoable}
 use Rattle.rules.specs.Rules.{undo}
 use Rattle.groups.specs.Groups.{Groups, Deed, at, replay, Accepted}

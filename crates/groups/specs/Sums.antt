@@ -1,5 +1,6 @@
 -- What is put on the keys of a group. Group sizes, byte-seconds and the naming of owners are all such sums.
-use Rattle.kit.specs.Names.{cond, List, [], ◌∷◌, ℕ, zero, suc, ◌+◌, eqb}
+use Rattle.std.specs.Prelude.{◌∷◌, ◌+◌}
+use Rattle.kit.specs.Names.{cond, List, [], ℕ, zero, suc, eqb}
 
 -- Keys, and what is put on each.
 abbrev pub Credits : Type 0

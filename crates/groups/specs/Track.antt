@@ -1,6 +1,7 @@
 -- A history, and what of it survives, kept as a stack: what has survived now, and what had survived as each open snapshot was taken.
 -- Crate `history` has survival in document 01's own words, and the proof that the two are equal.
-use Rattle.kit.specs.Names.{◌≡◌, Bool, cond, List, [], ◌∷◌, ◌≢◌, ℕ, ◌<◌, eqb}
+use Rattle.std.specs.Prelude.{◌≡◌, ◌∷◌, ◌≢◌, ◌<◌}
+use Rattle.kit.specs.Names.{Bool, cond, List, [], ℕ, eqb}
 use Rattle.rules.specs.Rules.{Call, Answer, DONE, BROKEN-TABLE, BAD-STATE, value, owner_of}
 use Rattle.rules.specs.declared.call.Call.TheVariants.{New, Len, Find, Unioned, Join, Post, Probe, ProbeKey, TryProbe, Snapshot, Rollback, Commit, Keys, Actions, Changes}
 use Rattle.groups.specs.Groups.{Deed, created, joined, posted}

@@ -1,1 +1,2 @@
 // Theorems alone: what they are about is in specs/, why they hold in proofs/.
+#![tactic(auto)]

@@ -1,5 +1,5 @@
 -- Beside `groups_after`: what a table answers DONE, too, depends on the surviving creations, joins and posts alone, where there is room.
-use Rattle.kit.specs.Names.{◌≡◌, ◌↔◌}
+use Rattle.std.specs.Prelude.{◌≡◌, ◌↔◌}
 use Rattle.rules.specs.Rules.{Call, DONE, Table, step}
 use Rattle.groups.specs.Groups.{Deed, replay, Accepts}
 use Rattle.groups.specs.Track.{History}

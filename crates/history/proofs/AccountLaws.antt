@@ -1,5 +1,6 @@
 -- The groups that accepted deeds make, and what the deeds come to: links, sums, owners and keys.
-use Rattle.kit.specs.Names.{◌≡◌, refl, sym, ap, ap₂, ◌∙◌, List, [], ◌∷◌, ◌↔◌, ◌≢◌, inl, inr, ℕ, suc, ◌+◌, ◌<◌, eqb, arith, le_refl, not-suc-le-zero, eqb-true, eqb-false, eq-eqb, ne_eqb}
+use Rattle.std.specs.Prelude.{◌≡◌, ◌∷◌, ◌↔◌, ◌≢◌, ◌+◌, ◌<◌}
+use Rattle.kit.specs.Names.{refl, sym, ap, ap₂, ◌∙◌, List, [], inl, inr, ℕ, suc, eqb, arith, le_refl, not-suc-le-zero, eqb-true, eqb-false, eq-eqb, ne_eqb}
 use Rattle.rules.specs.Rules.{Owner, Value, merge}
 use Rattle.rules.specs.declared.table.Owner.TheVariants.{Nobody, Tenant}
 use Rattle.rules.specs.declared.table.Merged.TheVariants.{Both}
@@ -51,6 +52,9 @@ values_as : {v : Value} {p : ℕ} {f : ℕ → ℕ} → Values v p f → (v' : V
 values_as {v} {p} {f} P v' p' f' a b c =
     record { sum = ap (λ (z : Value). z.amount) a ∙ P.sum ∙ sym b; owned = λ n. rw (a, c n) (P.owned n) }
 
+added : {a b c d : ℕ} → a ≡ c → b ≡ d → a + b ≡ c + d
+added e f = ap₂ (λ (x y : ℕ). x + y) e f
+
 -- ---- the account of a list of deeds
 
 pub record Account (g : Groups) (ds : List Deed) : Type 0 where
@@ -69,22 +73,22 @@ module _ {g : Groups} {ds : List Deed} (W : Whole g) (A : Account g ds) where
       let n : ℕ = g.count in
       let own : g.root key ≡ key = W.outside key (omega arith) in
       let live : key < suc n = omega arith in
-      let alone : (weigh : Value → ℕ) → total g.root key (credits weigh ds) ≡ 0 = λ weigh.
-      total_none g.root key n (λ i h q. omega (arith, W.within i h)) (credits weigh ds) (A.below weigh) in
+      let alone : (r : ℕ) → r ≡ key → (weigh : Value → ℕ) → total g.root r (credits weigh ds) ≡ 0 = λ r z weigh.
+      total_none g.root r n (λ i h q. omega (arith, W.within i h)) (credits weigh ds) (A.below weigh) in
       record {
         links = A.links;
         values = λ r h m. up_to n r h
             (λ q. let z : r ≡ key = q ∙ sym e in
             values_as (values_one v) _ _ _
             (at_hit key v g.value r z)
-            (rw z (omega (arith, due_hit g.root key key v.amount own, alone (λ v. v.amount))))
-            (λ k. rw z (omega (arith, due_hit g.root key key (named_by k v.owner) own, alone (λ v. named_by k v.owner)))))
+            (added (due_hit g.root r key v.amount (own ∙ sym z)) (alone r z (λ v. v.amount)) ∙ omega arith)
+            (λ k. added (due_hit g.root r key (named_by k v.owner) (own ∙ sym z)) (alone r z (λ v. named_by k v.owner)) ∙ omega arith))
             (λ q. let d : r ≢ key = λ z. omega arith in
             let d' : g.root key ≢ r = λ z. d (sym z ∙ own) in
             values_as (A.values r q m) _ _ _
             (at_miss key v g.value r d)
-            (omega (arith, due_miss g.root r key v.amount d'))
-            (λ k. omega (arith, due_miss g.root r key (named_by k v.owner) d')));
+            (added (due_miss g.root r key v.amount d') refl ∙ omega arith)
+            (λ k. added (due_miss g.root r key (named_by k v.owner) d') refl ∙ omega arith));
         keys = ap₂ (λ (x : ℕ) (xs : List ℕ). x ∷ xs) e A.keys;
         below = λ weigh. more live (below_suc (A.below weigh));
       }
@@ -101,12 +105,12 @@ module _ {g : Groups} {ds : List Deed} (W : Whole g) (A : Account g ds) where
         values = λ r hr m. by_same r r₀
             (λ z. values_as (values_both (A.values r₀ (W.within key h) (W.settled key)) (values_one v) x e) _ _ _
             (at_hit r₀ x g.value r z)
-            (rw z (omega (arith, due_hit g.root r₀ key v.amount refl)))
-            (λ k. rw z (omega (arith, due_hit g.root r₀ key (named_by k v.owner) refl))))
+            (added (due_hit g.root r key v.amount (sym z)) (ap (λ (i : ℕ). total g.root i (byte_seconds ds)) z) ∙ omega arith)
+            (λ k. added (due_hit g.root r key (named_by k v.owner) (sym z)) (ap (λ (i : ℕ). total g.root i (namings k ds)) z) ∙ omega arith))
             (λ d. values_as (A.values r hr m) _ _ _
             (at_miss r₀ x g.value r d)
-            (omega (arith, due_miss g.root r key v.amount (λ z. d (sym z))))
-            (λ k. omega (arith, due_miss g.root r key (named_by k v.owner) (λ z. d (sym z)))));
+            (added (due_miss g.root r key v.amount (λ z. d (sym z))) refl ∙ omega arith)
+            (λ k. added (due_miss g.root r key (named_by k v.owner) (λ z. d (sym z))) refl ∙ omega arith));
         keys = A.keys;
         below = λ weigh. more h (A.below weigh);
       })

@@ -1,5 +1,6 @@
 -- Roots and links: two keys have one root exactly when joins link them.
-use Rattle.kit.specs.Names.{◌≡◌, refl, sym, ap, ◌∙◌, subst, cond, [], ◌∷◌, List-as-Memᴰ, List·Memᴰ·head, List·Memᴰ·tail, List·Memᴰ·cases-cons, List·Memᴰ·not-nil, ◌↔◌, ◌⊎◌, ℕ, eqb}
+use Rattle.std.specs.Prelude.{◌≡◌, ◌∷◌, ◌↔◌, ◌⊎◌}
+use Rattle.kit.specs.Names.{refl, sym, ap, ◌∙◌, subst, cond, [], Memᴰ, mem_head, mem_tail, mem_cases_cons, mem_not_nil, ℕ, eqb}
 use Rattle.groups.specs.Groups.{shift}
 use Rattle.groups.proofs.Tools.{by_same, either}
 use Rattle.groups.proofs.SumLaws.{shift_hit, shift_miss}
@@ -8,7 +9,7 @@ use Rattle.history.specs.Account.{Pairs, Linked, same, join, flip, chain}
 -- Each key is linked to its root, and joined keys have one root.
 pub record Links (js : Pairs) (root : ℕ → ℕ) : Type 0 where
   pub reach : (x : ℕ) → Linked js x (root x)
-  pub agree : (a b : ℕ) → List-as-Memᴰ (a, b) js → root a ≡ root b
+  pub agree : (a b : ℕ) → Memᴰ (a, b) js → root a ≡ root b
 
 linked_same : {js : Pairs} {root : ℕ → ℕ} → Links js root → {x y : ℕ} → Linked js x y → root x ≡ root y
 linked_same {root = root} k (same e) = ap root e
@@ -21,19 +22,19 @@ linked_iff {js} k x y = (λ e. chain (subst (λ (z : ℕ). Linked js x z) e (k.r
 
 weaken : {js : Pairs} (j : ℕ × ℕ) {x y : ℕ} → Linked js x y → Linked (j ∷ js) x y
 weaken j (same e) = same e
-weaken j (join m) = join (List·Memᴰ·tail m)
+weaken j (join m) = join (mem_tail m)
 weaken j (flip l) = flip (weaken j l)
 weaken j (chain l m) = chain (weaken j l) (weaken j m)
 
 pub no_links : Links [] (λ i. i)
-no_links = record { reach = λ x. same refl; agree = λ a b m. absurd (List·Memᴰ·not-nil m) }
+no_links = record { reach = λ x. same refl; agree = λ a b m. absurd (mem_not_nil m) }
 
 module _ {js : Pairs} {root : ℕ → ℕ} (k : Links js root) (a b : ℕ) where
   -- The new pair's own case, and the older pairs'.
-  agreeing : (f : ℕ → ℕ) → f a ≡ f b → ((x y : ℕ) → root x ≡ root y → f x ≡ f y) → (x y : ℕ) → List-as-Memᴰ (x, y) ((a, b) ∷ js)
+  agreeing : (f : ℕ → ℕ) → f a ≡ f b → ((x y : ℕ) → root x ≡ root y → f x ≡ f y) → (x y : ℕ) → Memᴰ (x, y) ((a, b) ∷ js)
       → f x ≡ f y
   agreeing f e g x y m =
-      either (List·Memᴰ·cases-cons m)
+      either (mem_cases_cons m)
       (λ q. ap (λ (z : ℕ × ℕ). f z.0) q ∙ e ∙ sym (ap (λ (z : ℕ × ℕ). f z.1) q))
       (λ q. g x y (k.agree x y q))
 
@@ -43,7 +44,7 @@ module _ {js : Pairs} {root : ℕ → ℕ} (k : Links js root) (a b : ℕ) where
 
   -- The roots of the two are linked by the join.
   roots_linked : Linked ((a, b) ∷ js) (root a) (root b)
-  roots_linked = chain (flip (weaken (a, b) (k.reach a))) (chain (join (List·Memᴰ·head refl)) (weaken (a, b) (k.reach b)))
+  roots_linked = chain (flip (weaken (a, b) (k.reach a))) (chain (join (mem_head refl)) (weaken (a, b) (k.reach b)))
 
   -- One of the two groups goes into the other.
   pub links_hung : (low high : ℕ) → ((low ≡ root a) × (high ≡ root b)) ⊎ ((low ≡ root b) × (high ≡ root a))

@@ -1,5 +1,6 @@
 -- Document 01's survivors are those of the stack, in every history that follows the tokens' rules.
-use Rattle.kit.specs.Names.{◌≡◌, refl, sym, ap, ◌∙◌, Bool, true, false, cond, not, ◌&&◌, ◌||◌, true≢false, List, [], ◌∷◌, ◌++◌, map, ◌⊎◌, inl, inr, ℕ, suc, ◌≤◌, ◌<◌, eqb, arith, le_refl, eqb-true}
+use Rattle.std.specs.Prelude.{◌≡◌, ◌&&◌, ◌||◌, ◌∷◌, ◌++◌, ◌⊎◌, ◌≤◌, ◌<◌}
+use Rattle.kit.specs.Names.{refl, sym, ap, ◌∙◌, Bool, true, false, cond, not, true≢false, List, [], map, inl, inr, ℕ, suc, eqb, arith, le_refl, eqb-true}
 use Rattle.kit.specs.Names.{eq-eqb, ne_eqb}
 use Rattle.groups.specs.Groups.{Deed}
 use Rattle.groups.specs.Track.{Event, History, is_done, Act, idle, moves, takes, undoes, closes, act, deed_of}

@@ -1,5 +1,6 @@
 -- Demand 3: of every table that stands for a history, and so of every one that is reached from a fresh table.
-use Rattle.kit.specs.Names.{◌≡◌, refl, sym, ap, ◌∙◌, subst⁻¹, Bool, true, false, List, [], ◌∷◌, ◌↔◌, ◌≢◌, ℕ, ◌<◌, length, eqb, arith, eqb-false}
+use Rattle.std.specs.Prelude.{◌≡◌, ◌∷◌, ◌↔◌, ◌≢◌, ◌<◌}
+use Rattle.kit.specs.Names.{refl, sym, ap, ◌∙◌, subst⁻¹, Bool, true, false, List, [], ℕ, length, eqb, arith, eqb-false}
 use Rattle.rules.specs.Rules.{Call, Owner, Value, DONE, BAD-STATE, NO-KEY, LOG-FULL, Rows, Table, row_at, found, Path, broken, to, memory_of, with_memory, full, puts}
 use Rattle.rules.specs.Rules.{Plan, walked_on, go_on, find_on, Outcome, outcome, refuse, carry, bad_table, not_live, live, call, step}
 use Rattle.rules.specs.declared.call.Call.TheVariants.{Find}

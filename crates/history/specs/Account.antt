@@ -1,5 +1,6 @@
 -- What creations, joins and posts come to: which keys are linked, what was put on each key, whom it names.
-use Rattle.kit.specs.Names.{◌≡◌, cond, List, [], ◌∷◌, List-as-Memᴰ, ℕ, zero, suc, eqb}
+use Rattle.std.specs.Prelude.{◌≡◌, ◌∷◌}
+use Rattle.kit.specs.Names.{cond, List, [], Memᴰ, ℕ, zero, suc, eqb}
 use Rattle.rules.specs.Rules.{Owner, Value}
 use Rattle.rules.specs.declared.table.Owner.TheVariants.{Nobody, Tenant}
 use Rattle.groups.specs.Sums.{Credits}
@@ -20,7 +21,7 @@ joins (posted key v ∷ ds) = joins ds
 -- Joins link the keys that they name, either way round, and what is linked to the same is linked.
 pub data Linked (js : Pairs) : ℕ → ℕ → Type 0 where
   same : {a b : ℕ} → a ≡ b → Linked js a b
-  join : {a b : ℕ} → List-as-Memᴰ (a, b) js → Linked js a b
+  join : {a b : ℕ} → Memᴰ (a, b) js → Linked js a b
   flip : {a b : ℕ} → Linked js b a → Linked js a b
   chain : {a b c : ℕ} → Linked js a b → Linked js b c → Linked js a c
 

@@ -1,5 +1,6 @@
 -- Demand 3, sentence by sentence, of a table and the history that led to it; and the histories that it is promised for.
-use Rattle.kit.specs.Names.{◌≡◌, List, [], ◌∷◌, ◌↔◌, ℕ, ◌^◌, ◌≤◌, ◌<◌}
+use Rattle.std.specs.Prelude.{◌≡◌, ◌∷◌, ◌↔◌, ◌^◌, ◌≤◌, ◌<◌}
+use Rattle.kit.specs.Names.{List, [], ℕ}
 use Rattle.rules.specs.Rules.{Call, DONE, Rows, Log, Table, table, fresh, row_at, found, to, walked_on, step}
 use Rattle.rules.specs.declared.call.Call.TheVariants.{Find}
 use Rattle.rules.specs.declared.table.Owner.TheVariants.{Nobody, Tenant}

@@ -1,6 +1,7 @@
 -- Document 01, "Rules of the log and the tokens": "A call is rolled back when a snapshot that was open at the time of the call is later
 -- rolled back with DONE. Otherwise, if answered DONE, it survives; a refused call never does."
-use Rattle.kit.specs.Names.{Bool, false, cond, not, ◌&&◌, ◌||◌, List, [], ◌∷◌, ◌++◌, ℕ, eqb}
+use Rattle.std.specs.Prelude.{◌&&◌, ◌||◌, ◌∷◌, ◌++◌}
+use Rattle.kit.specs.Names.{Bool, false, cond, not, List, [], ℕ, eqb}
 use Rattle.groups.specs.Groups.{Deed}
 use Rattle.groups.specs.Track.{Event, History, is_done, Act, idle, moves, takes, undoes, closes, act, deed_of}
 

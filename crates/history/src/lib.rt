@@ -1,1 +1,2 @@
 // Theorems alone: what is promised is in specs/, why it holds in proofs/.
+#![tactic(auto)]

@@ -1,5 +1,6 @@
 -- The calls of a list of numbers have numbers of 32 and 64 bits, as the host's have. Assumes nothing.
-use Rattle.kit.specs.Names.{◌≡◌, refl, Bool, true, false, cond, ◌&&◌, List, [], ◌∷◌, ℕ, zero, suc, ◌≤◌, leb, ltb, leb-true, arith}
+use Rattle.std.specs.Prelude.{◌≡◌, ◌&&◌, ◌∷◌, ◌≤◌}
+use Rattle.kit.specs.Names.{refl, Bool, true, false, cond, List, [], ℕ, zero, suc, leb, ltb, leb-true, arith}
 use Rattle.rules.specs.Rules.{Call}
 use Rattle.journal.specs.declared.entry.Entry.{Entry}
 use Rattle.journal.specs.declared.entry.Entry.TheVariants.{EntryNew, EntryPost, EntryJoin, EntrySnapshot, EntryRollback, EntryCommit}

@@ -1,6 +1,7 @@
 -- Document 02, Q-1: "Night runs must rebuild a day." The calls of a day that were carried out have the same table and the same entries, and their
 -- journal is replayed. Assumes nothing.
-use Rattle.kit.specs.Names.{◌≡◌, refl, ap, ◌∙◌, Bool, true, false, cond, ◌&&◌, List, [], ◌∷◌, ◌++◌, length}
+use Rattle.std.specs.Prelude.{◌≡◌, ◌&&◌, ◌∷◌, ◌++◌}
+use Rattle.kit.specs.Names.{refl, ap, ◌∙◌, Bool, true, false, cond, List, [], length}
 use Rattle.rules.specs.Rules.{Call, BAD-JOURNAL, NO-ROOM, Table, table, fresh, refusal, step}
 use Rattle.history.specs.Demand.{Story, turn, tell, begin}
 use Rattle.journal.specs.declared.entry.Entry.{Entry}

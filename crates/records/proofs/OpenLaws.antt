@@ -1,5 +1,6 @@
 -- A call opens and closes as many snapshots as what is written of it, on any table whatever. Assumes nothing.
-use Rattle.kit.specs.Names.{◌≡◌, refl, sym, ap, ◌∙◌, Bool, true, false, cond, not, ◌||◌, List, [], ◌∷◌, ℕ, ◌-◌, ◌≤◌, ◌<◌, length, eqb, ltb, add-one}
+use Rattle.std.specs.Prelude.{◌≡◌, ◌||◌, ◌∷◌, ◌-◌, ◌≤◌, ◌<◌}
+use Rattle.kit.specs.Names.{refl, sym, ap, ◌∙◌, Bool, true, false, cond, not, List, [], ℕ, length, eqb, ltb, add-one}
 use Rattle.kit.specs.Names.{arith}
 use Rattle.kit.specs.Names.{lt-ltb, eqb-false}
 use Rattle.rules.specs.Rules.{Answer, Answered, Call, Mark, Sought, Value, DONE, KEYS-FULL, LOG-FULL, NO-KEY, NOT-INNERMOST, TOO-DEEP, BROKEN-TABLE}

@@ -1,6 +1,7 @@
 -- Document 02, Q-1: "Exactly the DONE calls of these six kinds are written, in order." Assumes nothing.
-use Rattle.kit.specs.Names.{◌≡◌, refl, sym, ap, ◌∙◌, Bool, true, false, cond, not, ◌||◌, ◌&&◌, List, [], ◌∷◌, ◌++◌, append_assoc, append-nil, ℕ, suc}
-use Rattle.kit.specs.Names.{◌+◌, ◌*◌, ◌≤◌, ◌<◌}
+use Rattle.std.specs.Prelude.{◌≡◌, ◌||◌, ◌&&◌, ◌∷◌, ◌++◌}
+use Rattle.kit.specs.Names.{refl, sym, ap, ◌∙◌, Bool, true, false, cond, not, List, [], append_assoc, append-nil, ℕ, suc}
+use Rattle.std.specs.Prelude.{◌+◌, ◌*◌, ◌≤◌, ◌<◌}
 use Rattle.kit.specs.Names.{length, sets, eqb, leb, ltb, arith, dec_lt, ℕ_discrete, eq-eqb, ne_eqb, lt-leb, le-ltb, lt-ltb, ltb-false, leb-false}
 use Rattle.rules.specs.Rules.{Call, WORD, DONE, BAD-JOURNAL, NO-ROOM, Table, step, refusal}
 use Rattle.rules.specs.declared.call.Call.TheVariants.{New, Len, Find, Unioned, Join, Post, Probe, ProbeKey, TryProbe, Snapshot, Rollback, Commit}

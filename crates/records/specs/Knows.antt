@@ -1,5 +1,6 @@
 -- What is known of a journal, and what is so of its bytes.
-use Rattle.kit.specs.Names.{◌≡◌, true, List, ◌++◌, ◌+◌, ◌≤◌, ◌<◌, length, take}
+use Rattle.std.specs.Prelude.{◌≡◌, ◌++◌, ◌+◌, ◌≤◌, ◌<◌}
+use Rattle.kit.specs.Names.{true, List, length, take}
 use Rattle.rules.specs.Rules.{WORD}
 use Rattle.journal.specs.declared.entry.Entry.{Entry}
 use Rattle.journal.specs.declared.known.Known.{Known}

@@ -1,5 +1,6 @@
 -- Document 02, Q-1: "Add an append-only journal. .. Exactly the DONE calls of these six kinds are written, in order."
-use Rattle.kit.specs.Names.{◌≡◌, List, [], ◌∷◌, ◌++◌, ℕ, ◌*◌, ◌≤◌, take, length}
+use Rattle.std.specs.Prelude.{◌≡◌, ◌∷◌, ◌++◌, ◌*◌, ◌≤◌}
+use Rattle.kit.specs.Names.{List, [], ℕ, take, length}
 use Rattle.rules.specs.Rules.{Call, Answer, DONE, Rows, Log, Table, table, fresh}
 use Rattle.groups.specs.Stands.{Lends}
 use Rattle.groups.specs.Acceptance.{MOST-LOGGED}

@@ -1,5 +1,6 @@
 -- Laws of courses: entries in two parts, in order, and tables of one course.
-use Rattle.kit.specs.Names.{◌≡◌, refl, sym, ap, ◌∙◌, true, List, [], ◌∷◌, ◌++◌, ℕ, suc, ◌-◌, length, arith, lt-ltb}
+use Rattle.std.specs.Prelude.{◌≡◌, ◌∷◌, ◌++◌, ◌-◌}
+use Rattle.kit.specs.Names.{refl, sym, ap, ◌∙◌, true, List, [], ℕ, suc, length, arith, lt-ltb}
 use Rattle.rules.specs.Rules.{MAX-OPEN, Rows, Table}
 use Rattle.groups.specs.Groups.{Groups, Deed}
 use Rattle.groups.specs.Shown.{groups_of, Same}

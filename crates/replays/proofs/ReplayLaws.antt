@@ -1,5 +1,6 @@
 -- Replay of entries that the groups accept, into any table that stands for a history and has room: each is answered DONE.
-use Rattle.kit.specs.Names.{◌≡◌, refl, ap, ◌∙◌, subst⁻¹, cond, List, [], ◌∷◌, ◌≢◌, ℕ, suc, ◌+◌, ◌<◌, length, eqb, arith, eq-eqb}
+use Rattle.std.specs.Prelude.{◌≡◌, ◌∷◌, ◌≢◌, ◌+◌, ◌<◌}
+use Rattle.kit.specs.Names.{refl, ap, ◌∙◌, subst⁻¹, cond, List, [], ℕ, suc, length, eqb, arith, eq-eqb}
 use Rattle.rules.specs.Rules.{Call, Answer, State, DONE, Rows, Table, Outcome, step}
 use Rattle.groups.specs.Track.{event, History, act, track}
 use Rattle.groups.specs.Stands.{over_after, StandsOver, Stands}

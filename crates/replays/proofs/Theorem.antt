@@ -1,5 +1,6 @@
 -- Document 02, Q-1: a replayed journal gives the same, from any two tables of one course, and so from fresh ones.
-use Rattle.kit.specs.Names.{◌≡◌, refl, sym, ap, ◌∙◌, subst⁻¹, List, [], ℕ, length, arith}
+use Rattle.std.specs.Prelude.{◌≡◌}
+use Rattle.kit.specs.Names.{refl, sym, ap, ◌∙◌, subst⁻¹, List, [], ℕ, length, arith}
 use Rattle.rules.specs.Rules.{Call, Rows, Log, Table, table, fresh}
 use Rattle.groups.specs.Track.{History, track}
 use Rattle.groups.specs.Stands.{Stands}

@@ -1,5 +1,6 @@
 -- Rollbacks, one by one, of the innermost open snapshot: each is answered DONE, and they give back the deeds of each.
-use Rattle.kit.specs.Names.{◌≡◌, refl, ap, ◌∙◌, ◌∷◌, ℕ, zero, suc, ◌-◌, ◌≤◌, length, arith}
+use Rattle.std.specs.Prelude.{◌≡◌, ◌∷◌, ◌-◌, ◌≤◌}
+use Rattle.kit.specs.Names.{refl, ap, ◌∙◌, ℕ, zero, suc, length, arith}
 use Rattle.rules.specs.Rules.{Call, Answer, DONE, Table, Outcome}
 use Rattle.rules.specs.declared.call.Call.TheVariants.{Rollback}
 use Rattle.groups.specs.Track.{event, History, act, track}

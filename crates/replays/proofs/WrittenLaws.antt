@@ -1,5 +1,6 @@
 -- What is written of calls makes of a course what the calls make of their history, and the groups accept it.
-use Rattle.kit.specs.Names.{◌≡◌, refl, sym, ap, ap₂, ◌∙◌, List, [], ◌∷◌, ◌++◌, append-nil, append_assoc, ℕ, ◌≤◌, ◌<◌, length, eqb, arith}
+use Rattle.std.specs.Prelude.{◌≡◌, ◌∷◌, ◌++◌, ◌≤◌, ◌<◌}
+use Rattle.kit.specs.Names.{refl, sym, ap, ap₂, ◌∙◌, List, [], append-nil, append_assoc, ℕ, length, eqb, arith}
 use Rattle.rules.specs.Rules.{Call, Answer, DONE, MAX-OPEN, Rows, Table, value, owner_of, step}
 use Rattle.rules.specs.declared.call.Call.TheVariants.{New, Len, Find, Unioned, Join, Post, Probe, ProbeKey, TryProbe, Snapshot, Rollback, Commit}
 use Rattle.rules.specs.declared.call.Call.TheVariants.{Keys, Actions, Changes}

@@ -1,6 +1,7 @@
 -- What entries make of the surviving deeds, without a table: the deeds now, and those at each open snapshot. Tokens are left out, since
 -- "Rollback and commit act on the innermost."
-use Rattle.kit.specs.Names.{List, [], ◌∷◌, ℕ, ◌<◌, length}
+use Rattle.std.specs.Prelude.{◌∷◌, ◌<◌}
+use Rattle.kit.specs.Names.{List, [], ℕ, length}
 use Rattle.rules.specs.Rules.{MAX-OPEN, value, owner_of}
 use Rattle.groups.specs.Groups.{Deed, created, joined, posted, replay, Accepts}
 use Rattle.groups.specs.Track.{Saved, Track}

@@ -1,6 +1,7 @@
 -- Document 02, Q-1: "Exactly the DONE calls of these six kinds are written, in order. .. Replayed into a fresh table with as many rows,
 -- and log room of 32 for each entry, where 01's limit allows that, it gives the same key count, roots, root ranks, owners and amounts."
-use Rattle.kit.specs.Names.{◌≡◌, true, List, [], ◌∷◌, ◌++◌, ℕ, zero, suc, ◌+◌, ◌*◌, ◌≤◌, length}
+use Rattle.std.specs.Prelude.{◌≡◌, ◌∷◌, ◌++◌, ◌+◌, ◌*◌, ◌≤◌}
+use Rattle.kit.specs.Names.{true, List, [], ℕ, zero, suc, length}
 use Rattle.rules.specs.Rules.{Call, DONE, MAX-U64, Rows, Log, Table, table, fresh, entries, Outcome, step}
 use Rattle.rules.specs.declared.call.Call.TheVariants.{Rollback}
 use Rattle.groups.specs.Shown.{groups_of, Same}
