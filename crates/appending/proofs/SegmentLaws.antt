@@ -1,5 +1,6 @@
 -- A segment written behind a journal, and what an append answers. Assumes nothing.
-use Rattle.kit.specs.Names.{◌≡◌, sym, ap, ◌∙◌, Bool, true, false, not, ◌||◌, ◌&&◌, ◌++◌, ℕ, ◌+◌, ◌*◌, ◌-◌, ◌/◌, ◌≤◌, ◌<◌}
+use Rattle.std.specs.Prelude.{◌≡◌, ◌||◌, ◌&&◌, ◌++◌, ◌+◌, ◌*◌, ◌-◌, ◌/◌, ◌≤◌, ◌<◌}
+use Rattle.kit.specs.Names.{sym, ap, ◌∙◌, Bool, true, false, not, ℕ}
 use Rattle.kit.specs.Names.{length, take, drop, sets, take-length, ltb, arith, lt-ltb, le-ltb, not-true, not-false}
 use lib.Seq.{sets-eq}
 use Rattle.rules.specs.Rules.{DONE}

@@ -1,5 +1,6 @@
 -- When a journal takes one segment more: what is appended says how many snapshots may be open before it. Assumes nothing.
-use Rattle.kit.specs.Names.{◌≡◌, refl, sym, ap, ◌∙◌, Bool, true, false, not, ◌||◌, ◌&&◌, List, [], ◌∷◌, ◌++◌, ℕ, suc, ◌+◌, ◌*◌, ◌/◌, ◌≤◌, ◌<◌}
+use Rattle.std.specs.Prelude.{◌≡◌, ◌||◌, ◌&&◌, ◌∷◌, ◌++◌, ◌+◌, ◌*◌, ◌/◌, ◌≤◌, ◌<◌}
+use Rattle.kit.specs.Names.{refl, sym, ap, ◌∙◌, Bool, true, false, not, List, [], ℕ, suc}
 use Rattle.kit.specs.Names.{length, take, eqb, leb, ltb, arith, eq-eqb, ne_eqb, le-leb, lt-leb, lt-ltb, le-ltb, ltb-true, ltb-false, leb-true, eqb-true}
 use mathlib.Core.Bool.{and-false}
 use Rattle.rules.specs.Rules.{WORD}

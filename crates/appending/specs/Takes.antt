@@ -1,5 +1,6 @@
 -- Whether a journal takes some bytes as one segment more.
-use Rattle.kit.specs.Names.{◌≡◌, Bool, true, not, ◌||◌, ◌&&◌, ◌++◌, ℕ, ◌+◌, ◌*◌, ◌/◌, ◌≤◌, ◌<◌, length, take, drop, eqb, leb, ltb}
+use Rattle.std.specs.Prelude.{◌≡◌, ◌||◌, ◌&&◌, ◌++◌, ◌+◌, ◌*◌, ◌/◌, ◌≤◌, ◌<◌}
+use Rattle.kit.specs.Names.{Bool, true, not, ℕ, length, take, drop, eqb, leb, ltb}
 use Rattle.rules.specs.Rules.{WORD}
 use Rattle.journal.specs.Numbers.{ENTRY-BYTES, TRAILER-BYTES, SEGMENT}
 use Rattle.journal.specs.Entry.{Bytes}

@@ -1,4 +1,4 @@
-ghost use Rattle.kit.specs.Names.{◌≡◌, ◌+◌, length};
+ghost use Rattle.std.specs.Prelude.{◌≡◌, ◌+◌, length};
 ghost use Rattle.journal.specs.Numbers.{TRAILER-BYTES};
 ghost use Rattle.journal.specs.Append.{segment, append};
 ghost use Rattle.appending.specs.Takes.{Writable, with_segment};

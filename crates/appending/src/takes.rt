@@ -1,4 +1,4 @@
-ghost use Rattle.kit.specs.Names.{◌≡◌};
+ghost use Rattle.std.specs.Prelude.{◌≡◌};
 ghost use Rattle.appending.specs.Takes.{takes, fills_by};
 
 use journal::entry::{ENTRY_BYTES, SEGMENT};

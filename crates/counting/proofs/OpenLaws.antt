@@ -1,5 +1,6 @@
 -- A valid journal gone through from the front leaves as many snapshots open as its entries do. Assumes nothing.
-use Rattle.kit.specs.Names.{◌≡◌, refl, sym, ap, ◌∙◌, true, true≢false, subst, List, ℕ, ◌+◌, ◌-◌, ◌≤◌, ◌<◌, length, arith, ne_eqb, lt-ltb, le-ltb, ltb-true}
+use Rattle.std.specs.Prelude.{◌≡◌, ◌+◌, ◌-◌, ◌≤◌, ◌<◌}
+use Rattle.kit.specs.Names.{refl, sym, ap, ◌∙◌, true, true≢false, subst, List, ℕ, length, arith, ne_eqb, lt-ltb, le-ltb, ltb-true}
 use Rattle.rules.specs.Rules.{MAX-OPEN}
 use Rattle.journal.specs.declared.entry.Entry.{Entry}
 use Rattle.journal.specs.declared.entry.Entry.TheVariants.{EntryNew, EntryPost, EntryJoin, EntrySnapshot, EntryRollback, EntryCommit, NoEntry}

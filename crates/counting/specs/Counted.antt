@@ -1,5 +1,6 @@
 -- What a recorder has to know of a whole journal: its length, how many segments it has and how many snapshots are open in it.
-use Rattle.kit.specs.Names.{ℕ, ◌+◌, ◌-◌, length}
+use Rattle.std.specs.Prelude.{◌+◌, ◌-◌}
+use Rattle.kit.specs.Names.{ℕ, length}
 use Rattle.journal.specs.declared.known.Known.{Known}
 use Rattle.journal.specs.Entry.{Bytes}
 use Rattle.journal.specs.Journal.{open_in, journal_of}

@@ -1,5 +1,5 @@
 // How many snapshots are open at the end of a valid journal.
-ghost use Rattle.kit.specs.Names.{◌≡◌, true, ◌≤◌, ◌<◌};
+ghost use Rattle.std.specs.Prelude.{◌≡◌, true, ◌≤◌, ◌<◌};
 ghost use Rattle.rules.specs.Rules.{MAX-OPEN};
 ghost use Rattle.journal.specs.Numbers.{ENTRY-SNAPSHOT};
 ghost use Rattle.journal.specs.Journal.{valid};
@@ -9,7 +9,7 @@ use journal::entry::{ENTRY_BYTES, ENTRY_SNAPSHOT, TRAILER_BYTES};
 use little_endian::read::u32_at;
 
 // After an entry of this kind. Kinds above a snapshot's close one.
-fn open_after_lem(before: u32, kind: u32) -> u32
+fn open_after(before: u32, kind: u32) -> u32
     requires before_bound { before ≤ MAX-OPEN }
     requires before_nonzero { ENTRY-SNAPSHOT < kind → 0 < before }
     ensures { result ≡ open_past before kind }
@@ -37,7 +37,7 @@ pub fn open_at_end(bytes: &[u8]) -> u32
             at += TRAILER_BYTES;
             continue;
         }
-        so_far = open_after_lem(so_far, kind);
+        so_far = open_after(so_far, kind);
         at += ENTRY_BYTES;
     }
     so_far

@@ -1,4 +1,4 @@
-ghost use Rattle.kit.specs.Names.{◌≡◌, true};
+ghost use Rattle.std.specs.Prelude.{◌≡◌, true};
 ghost use Rattle.journal.specs.Journal.{valid};
 ghost use Rattle.counting.specs.Counted.{known_of};
 

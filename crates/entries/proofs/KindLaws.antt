@@ -1,5 +1,6 @@
 -- An entry by the limits of its numbers. Assumes nothing.
-use Rattle.kit.specs.Names.{◌≡◌, refl, sym, ap, Bool, true, false, cond, ◌&&◌, ℕ, zero, ◌≤◌, ◌<◌, eqb, leb, arith, ℕ_discrete, dec_le, eq-eqb}
+use Rattle.std.specs.Prelude.{◌≡◌, ◌&&◌, ◌≤◌, ◌<◌}
+use Rattle.kit.specs.Names.{refl, sym, ap, Bool, true, false, ℕ, eqb, leb, arith, ℕ_discrete, dec_le, eq-eqb}
 use Rattle.kit.specs.Names.{ne_eqb, le-leb, lt-leb}
 use mathlib.Core.Bool.{and-true, and-false, and_assoc}
 use Rattle.journal.specs.declared.entry.Entry.{Entry}

@@ -1,5 +1,6 @@
 -- Q-1: "New uses owner and amount, post also key a, join both keys; unused fields are 0", as how large each number may be.
-use Rattle.kit.specs.Names.{Bool, true, false, cond, ◌&&◌, ◌||◌, ℕ, eqb, leb}
+use Rattle.std.specs.Prelude.{◌&&◌, ◌||◌}
+use Rattle.kit.specs.Names.{Bool, true, false, cond, ℕ, eqb, leb}
 use Rattle.journal.specs.declared.entry.Entry.{Entry}
 use Rattle.journal.specs.declared.entry.Entry.TheVariants.{EntryNew, EntryPost, EntryJoin, EntrySnapshot, EntryRollback, EntryCommit, NoEntry}
 use Rattle.journal.specs.Numbers.{ENTRY-NEW, ENTRY-POST, ENTRY-JOIN, ENTRY-SNAPSHOT, ENTRY-ROLLBACK, ENTRY-COMMIT}

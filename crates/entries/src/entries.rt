@@ -1,4 +1,4 @@
-ghost use Rattle.kit.specs.Names.{◌≡◌, ◌+◌, ◌≤◌, length};
+ghost use Rattle.std.specs.Prelude.{◌≡◌, ◌+◌, ◌≤◌, length};
 ghost use Rattle.journal.specs.Entry.{entry_of, read_entry};
 ghost use Rattle.entries.specs.Most.{most_of, is_kind, is_entry};
 

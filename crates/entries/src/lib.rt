@@ -1,2 +1,4 @@
 // The journal's entries in their bytes.
+#![tactic(auto)]
+
 pub mod entries;

@@ -1,5 +1,6 @@
 -- The call of an entry and its mark, entry by entry. Assumes nothing.
-use Rattle.kit.specs.Names.{◌≡◌, ap, ◌∙◌, ◌-◌}
+use Rattle.std.specs.Prelude.{◌≡◌, ◌-◌}
+use Rattle.kit.specs.Names.{ap, ◌∙◌}
 use Rattle.rules.specs.Rules.{Call, Mark, Sought, State, mark_at}
 use Rattle.rules.specs.declared.call.Call.TheVariants.{Rollback, Commit}
 use Rattle.rules.specs.declared.table.Sought.TheVariants.{Missing}

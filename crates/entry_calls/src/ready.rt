@@ -1,5 +1,5 @@
 // Document 02, Q-1: "Rollback and commit act on the innermost."
-ghost use Rattle.kit.specs.Names.{◌≡◌, ◌-◌, ◌≤◌};
+ghost use Rattle.std.specs.Prelude.{◌≡◌, ◌-◌, ◌≤◌};
 ghost use Rattle.rules.specs.Rules.{MAX-OPEN, mark_at};
 ghost use Rattle.layout.specs.State.{Sized, state_by};
 ghost use Rattle.entry_calls.specs.Ready.{ready, ready_for};

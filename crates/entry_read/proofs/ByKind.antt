@@ -1,5 +1,6 @@
 -- An entry that is known to be one, by its kind. Assumes nothing.
-use Rattle.kit.specs.Names.{◌≡◌, refl, ap, sym, ◌∙◌, Bool, true, false, eqb, ◌&&◌, ℕ, true≢false, ℕ_discrete}
+use Rattle.std.specs.Prelude.{◌≡◌, ◌&&◌}
+use Rattle.kit.specs.Names.{refl, ap, sym, ◌∙◌, Bool, true, false, eqb, ℕ, true≢false, ℕ_discrete}
 use Rattle.journal.specs.declared.entry.Entry.{Entry}
 use Rattle.journal.specs.declared.entry.Entry.TheVariants.{EntryNew, EntryPost, EntryJoin, EntrySnapshot, EntryRollback, EntryCommit}
 use Rattle.journal.specs.Entry.{provided, entry_of}

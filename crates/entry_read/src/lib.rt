@@ -1,2 +1,4 @@
 // An entry of a valid journal, read.
+#![tactic(auto)]
+
 pub mod read;

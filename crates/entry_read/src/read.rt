@@ -1,4 +1,4 @@
-ghost use Rattle.kit.specs.Names.{◌≡◌, true, ◌+◌, ◌≤◌, length};
+ghost use Rattle.std.specs.Prelude.{◌≡◌, true, ◌+◌, ◌≤◌, length};
 ghost use Rattle.journal.specs.Entry.{read_entry};
 ghost use Rattle.entries.specs.Most.{is_entry};
 

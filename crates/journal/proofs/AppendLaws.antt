@@ -1,7 +1,9 @@
 -- Laws of an append: when a journal is valid with one segment more, and what it then is. Assumes nothing.
-use Rattle.kit.specs.Names.{◌≡◌, refl, sym, ap, ◌∙◌, Bool, true, false, cond, not, ◌||◌, ◌&&◌, List, [], ◌++◌, append_assoc, append-nil, ℕ, zero}
-use Rattle.kit.specs.Names.{suc, ◌+◌, ◌*◌, ◌-◌, ◌/◌, ◌≤◌, ◌<◌}
-use Rattle.kit.specs.Names.{length, get_or, take, drop, length-append, eqb, leb, ltb, arith, dec_lt, eq-eqb, ne_eqb, leb-true, eqb-true, ltb-false}
+use Rattle.std.specs.Prelude.{◌≡◌, ◌||◌, ◌&&◌, ◌++◌}
+use Rattle.kit.specs.Names.{refl, sym, ap, ◌∙◌, Bool, true, false, cond, not, List, [], append_assoc, append-nil, ℕ}
+use Rattle.std.specs.Prelude.{◌+◌, ◌*◌, ◌-◌, ◌/◌, ◌≤◌, ◌<◌}
+use Rattle.kit.specs.Names.{suc}
+use Rattle.kit.specs.Names.{length, take, drop, length-append, eqb, leb, ltb, arith, dec_lt, eq-eqb, ne_eqb, leb-true, eqb-true, ltb-false}
 use Rattle.kit.specs.Names.{lt-ltb, le-ltb, le_refl}
 use Rattle.kit.specs.Names.{length-take-le, length-drop}
 use lib.ListN.{get_or-append}

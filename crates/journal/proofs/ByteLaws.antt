@@ -1,6 +1,7 @@
 -- Laws of the journal's bytes: a number, an entry and a list of entries are read back from their bytes, wherever these stand, and
 -- nothing else is looked at. Assumes nothing.
-use Rattle.kit.specs.Names.{◌≡◌, refl, ap, ◌∙◌, List, [], ◌∷◌, ◌++◌, append_assoc, ℕ, zero, suc, ◌+◌, ◌*◌, ◌^◌, ◌/◌, ◌%◌, ◌≤◌, ◌<◌}
+use Rattle.std.specs.Prelude.{◌≡◌, ◌∷◌, ◌++◌, ◌+◌, ◌*◌, ◌^◌, ◌/◌, ◌%◌, ◌≤◌, ◌<◌}
+use Rattle.kit.specs.Names.{refl, ap, ◌∙◌, List, [], append_assoc, ℕ, zero, suc}
 use Rattle.kit.specs.Names.{length, get_or, take, length-append, arith, mod-lt, div-lt_iff_lt-mul, get_or-take}
 use lib.ListN.{get_or-append}
 use lib.Seq.{get_or-append-add}

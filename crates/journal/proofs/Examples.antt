@@ -1,5 +1,6 @@
 -- Q-1's definitions on small journals, computed. Assumes nothing.
-use Rattle.kit.specs.Names.{◌≡◌, refl, true, false, List, [], ◌∷◌, ◌++◌, ℕ, length, replicate, take}
+use Rattle.std.specs.Prelude.{◌≡◌, ◌∷◌, ◌++◌}
+use Rattle.kit.specs.Names.{refl, true, false, List, [], ℕ, length, replicate, take}
 use Rattle.journal.specs.declared.entry.Entry.{Entry}
 use Rattle.journal.specs.declared.entry.Entry.TheVariants.{EntryNew, EntryPost, EntryJoin, EntrySnapshot, EntryRollback, EntryCommit}
 use Rattle.journal.specs.Entry.{Bytes, little_endian, little_at, fields, entries_bytes, entries_at}

@@ -1,5 +1,6 @@
 -- A valid journal gone through from the front has the entries that reading it from the end gives. Assumes nothing.
-use Rattle.kit.specs.Names.{◌≡◌, refl, sym, ap, ◌∙◌, true, List, [], ◌∷◌, ◌++◌, append_assoc, append-nil, ℕ, zero, suc, ◌+◌, ◌*◌, ◌≤◌, ◌<◌}
+use Rattle.std.specs.Prelude.{◌≡◌, ◌∷◌, ◌++◌, ◌+◌, ◌*◌, ◌≤◌, ◌<◌}
+use Rattle.kit.specs.Names.{refl, sym, ap, ◌∙◌, true, List, [], append_assoc, append-nil, ℕ, zero, suc}
 use Rattle.kit.specs.Names.{length, arith, dec_lt, ne_eqb, le-leb, lt-leb, lt-ltb, le-ltb, le_refl}
 use Rattle.journal.specs.declared.entry.Entry.{Entry}
 use Rattle.journal.specs.declared.entry.Entry.TheVariants.{NoEntry}

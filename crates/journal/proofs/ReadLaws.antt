@@ -1,6 +1,7 @@
 -- Laws of reading a journal by its trailers: what was read is a chain of segments, a chain is read whatever follows it, and one segment
 -- more is read as its entries after the others. Assumes nothing.
-use Rattle.kit.specs.Names.{◌≡◌, refl, sym, ap, ◌∙◌, Bool, true, false, cond, ◌&&◌, List, [], ◌∷◌, ◌++◌, ℕ, zero, suc, ◌+◌, ◌*◌, ◌-◌, ◌≤◌, ◌<◌}
+use Rattle.std.specs.Prelude.{◌≡◌, ◌&&◌, ◌∷◌, ◌++◌, ◌+◌, ◌*◌, ◌-◌, ◌≤◌, ◌<◌}
+use Rattle.kit.specs.Names.{refl, sym, ap, ◌∙◌, Bool, true, false, cond, List, [], ℕ, zero, suc}
 use Rattle.kit.specs.Names.{length, get_or, eqb, leb, arith, ℕ_discrete, eq-eqb, ne_eqb, le-leb, lt-leb, leb-true, eqb-true, le_refl}
 use Rattle.journal.specs.declared.entry.Entry.{Entry}
 use Rattle.journal.specs.Numbers.{ENTRY-BYTES, TRAILER-BYTES, SEGMENT}
@@ -153,7 +154,7 @@ module _ (bs : Bytes) where
 -- ---- what reading depends on
 
 -- A chain is the bytes below its end.
-pub chain_same : {end n : ℕ} {es : List Entry} (bs cs : Bytes) → ((i : ℕ) → i < end → get_or bs i 0 ≡ get_or cs i 0) → Chain bs end n es
+pub chain_same : (bs cs : Bytes) {end n : ℕ} {es : List Entry} → ((i : ℕ) → i < end → get_or bs i 0 ≡ get_or cs i 0) → Chain bs end n es
     → Chain cs end n es
 chain_same bs cs same nothing = nothing
 chain_same bs cs same (more {start} {n} {es} count c some few t) =

@@ -1,6 +1,7 @@
 -- Document 02, Q-1: "One append writes one segment, or refuses, writing nothing: 12 when the journal isn't valid or wouldn't be with
 -- it, then 16 NO_ROOM exactly when it is longer than the room left."
-use Rattle.kit.specs.Names.{Bool, cond, not, ◌||◌, ◌&&◌, List, [], ◌++◌, ℕ, ◌+◌, ◌*◌, ◌-◌, ◌/◌, length, take, drop, eqb, leb, ltb}
+use Rattle.std.specs.Prelude.{◌||◌, ◌&&◌, ◌++◌, ◌+◌, ◌*◌, ◌-◌, ◌/◌}
+use Rattle.kit.specs.Names.{Bool, cond, not, List, [], ℕ, length, take, drop, eqb, leb, ltb}
 use Rattle.rules.specs.Rules.{DONE, BAD-JOURNAL, NO-ROOM}
 use Rattle.journal.specs.Numbers.{ENTRY-BYTES, SEGMENT}
 use Rattle.journal.specs.declared.entry.Entry.{Entry}

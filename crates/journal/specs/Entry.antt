@@ -1,6 +1,7 @@
 -- Document 02, Q-1: an entry and its 24 bytes. "An entry is 24 bytes, little-endian: kind .., key a, key b, owner (0 for none), each 32
 -- bits, amount 64 bits. New uses owner and amount, post also key a, join both keys; unused fields are 0."
-use Rattle.kit.specs.Names.{Bool, cond, ◌&&◌, List, [], ◌∷◌, ◌++◌, ℕ, zero, suc, ◌+◌, ◌*◌, ◌/◌, ◌%◌, ◌<◌, get_or, eqb}
+use Rattle.std.specs.Prelude.{◌&&◌, ◌∷◌, ◌++◌, ◌+◌, ◌*◌, ◌/◌, ◌%◌, ◌<◌}
+use Rattle.kit.specs.Names.{Bool, cond, List, [], ℕ, zero, suc, get_or, eqb}
 use Rattle.rules.specs.Rules.{WORD}
 use Rattle.journal.specs.declared.entry.Entry.{Entry}
 use Rattle.journal.specs.declared.entry.Entry.TheVariants.{EntryNew, EntryPost, EntryJoin, EntrySnapshot, EntryRollback, EntryCommit, NoEntry}

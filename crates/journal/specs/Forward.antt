@@ -1,6 +1,7 @@
 -- A journal gone through from the front. Q-1: "Reading goes from the end to position 0", but an entry begins with its kind, 1 to 6, and a
 -- trailer with a distance of at least 24, so that in a valid journal each place says which of the two begins there.
-use Rattle.kit.specs.Names.{cond, List, [], ◌∷◌, ℕ, zero, suc, ◌+◌, ◌≤◌, ◌<◌, leb, ltb}
+use Rattle.std.specs.Prelude.{◌∷◌, ◌+◌, ◌≤◌, ◌<◌}
+use Rattle.kit.specs.Names.{cond, List, [], ℕ, zero, suc, leb, ltb}
 use Rattle.journal.specs.declared.entry.Entry.{Entry}
 use Rattle.journal.specs.Numbers.{ENTRY-BYTES, TRAILER-BYTES}
 use Rattle.journal.specs.Entry.{Bytes, little_at, read_entry}

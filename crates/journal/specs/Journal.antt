@@ -2,7 +2,8 @@
 -- the trailer's first byte to the segment's first, the entry count, the segment number from 0. Reading goes from the end to position
 -- 0, each trailer pointing further back. An empty journal is valid. Anything else, also a rollback or commit with nothing open or a
 -- 33rd open snapshot, is 12 BAD_JOURNAL, before any replay."
-use Rattle.kit.specs.Names.{Bool, cond, true, false, ◌&&◌, List, [], ◌∷◌, ◌++◌, ℕ, zero, suc, ◌+◌, ◌*◌, ◌-◌, length, eqb, leb, ltb}
+use Rattle.std.specs.Prelude.{◌&&◌, ◌∷◌, ◌++◌, ◌+◌, ◌*◌, ◌-◌}
+use Rattle.kit.specs.Names.{Bool, cond, true, false, List, [], ℕ, zero, suc, length, eqb, leb, ltb}
 use Rattle.rules.specs.Rules.{MAX-OPEN}
 use Rattle.journal.specs.declared.entry.Entry.{Entry}
 use Rattle.journal.specs.declared.entry.Entry.TheVariants.{EntryNew, EntryPost, EntryJoin, EntrySnapshot, EntryRollback, EntryCommit, NoEntry}

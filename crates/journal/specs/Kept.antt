@@ -1,8 +1,9 @@
 -- Document 02, Q-1: what an append keeps. "Add an append-only journal." "One append writes one segment, or refuses, writing nothing".
-use Rattle.kit.specs.Names.{◌≡◌, true, ◌++◌, ℕ, suc, length, take, drop}
+use Rattle.std.specs.Prelude.{◌≡◌, ◌++◌}
+use Rattle.kit.specs.Names.{true, ℕ, suc, length, take, drop}
 use Rattle.journal.specs.Entry.{Bytes}
 use Rattle.journal.specs.Journal.{journal, journal_of, valid}
-use Rattle.journal.specs.Append.{Appended, append, segments_of, entries_of, entries_in}
+use Rattle.journal.specs.Append.{Appended, segments_of, entries_of, entries_in}
 
 -- "append-only": all earlier bytes, and those past the segment, are left. "One append writes one segment": the journal is valid and has
 -- the entries that it had, and then those that were appended.

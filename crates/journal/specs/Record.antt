@@ -1,6 +1,7 @@
 -- Document 02, Q-1: a call carried out and written. "Exactly the DONE calls of these six kinds are written, in order." Entries wait
 -- behind the journal's bytes until their segment is ended by a trailer: at the 2048th, or when it is asked for.
-use Rattle.kit.specs.Names.{Bool, false, true, cond, not, ◌&&◌, ◌||◌, List, [], ◌∷◌, ℕ, suc, ◌+◌, ◌*◌, sets, length, eqb, leb, ltb}
+use Rattle.std.specs.Prelude.{◌&&◌, ◌||◌, ◌∷◌, ◌+◌, ◌*◌}
+use Rattle.kit.specs.Names.{Bool, false, true, cond, not, List, [], ℕ, suc, sets, length, eqb, leb, ltb}
 use Rattle.rules.specs.Rules.{Call, Answer, WORD, DONE, Table, refusal, step, BAD-JOURNAL, NO-ROOM}
 use Rattle.journal.specs.declared.entry.Entry.{Entry}
 use Rattle.journal.specs.declared.known.Known.{Known}

@@ -1,5 +1,6 @@
 -- Document 02, Q-1: "Replay stops at the first entry not answered DONE and names it. .. Rollback and commit act on the innermost."
-use Rattle.kit.specs.Names.{cond, List, [], ◌∷◌, ℕ, suc, ◌-◌, eqb}
+use Rattle.std.specs.Prelude.{◌∷◌, ◌-◌}
+use Rattle.kit.specs.Names.{cond, List, [], ℕ, suc, eqb}
 use Rattle.rules.specs.Rules.{Call, State, DONE, Table, mark_at, step, BAD-JOURNAL}
 use Rattle.rules.specs.declared.call.Call.TheVariants.{New, Len, Join, Post, Snapshot, Rollback, Commit}
 use Rattle.journal.specs.declared.entry.Entry.{Entry}

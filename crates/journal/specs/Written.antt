@@ -1,5 +1,6 @@
 -- Document 02, Q-1: "Exactly the DONE calls of these six kinds are written, in order."
-use Rattle.kit.specs.Names.{cond, List, [], ◌∷◌, eqb}
+use Rattle.std.specs.Prelude.{◌∷◌}
+use Rattle.kit.specs.Names.{cond, List, [], eqb}
 use Rattle.rules.specs.Rules.{Call, Answer, DONE}
 use Rattle.rules.specs.declared.call.Call.TheVariants.{New, Len, Find, Unioned, Join, Post, Probe, ProbeKey, TryProbe, Snapshot, Rollback, Commit, Keys, Actions, Changes}
 use Rattle.journal.specs.declared.entry.Entry.{Entry}

@@ -1,7 +1,7 @@
 // Document 02, Q-1: what the journal's entries are.
 
 // An entry of the journal. `NoEntry` is what bytes of no known kind, or with a number where none is used, read as.
-#[derive(Drop)]
+#[derive(Clone, Copy)]
 pub enum Entry {
     EntryNew(u32, u64),
     EntryPost(u32, u32, u64),

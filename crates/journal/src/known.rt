@@ -1,6 +1,6 @@
 // What a recorder knows of the journal that it adds to: its length in bytes and in segments, how many snapshots are open in it, and
 // how many entries wait behind it for their trailer.
-#[derive(Drop)]
+#[derive(Clone, Copy)]
 pub struct Known {
     pub used: usize,
     pub segments: u64,

@@ -1,2 +1,4 @@
+#![tactic(auto)]
+
 pub mod entry;
 pub mod known;

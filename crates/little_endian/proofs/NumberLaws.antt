@@ -1,5 +1,6 @@
 -- A number as its two halves. Assumes nothing.
-use Rattle.kit.specs.Names.{◌≡◌, ℕ, suc, ◌+◌, ◌*◌, get_or, arith}
+use Rattle.std.specs.Prelude.{◌≡◌, ◌+◌, ◌*◌}
+use Rattle.kit.specs.Names.{ℕ, suc, get_or, arith}
 use Rattle.journal.specs.Entry.{Bytes, little_at}
 
 pub from_bytes : (bs : Bytes) (at : ℕ) {low high r : ℕ} → low ≡ get_or bs at 0 + 256 * get_or bs (at + 1) 0

@@ -1,5 +1,6 @@
 -- When a call is not carried out for the journal's sake. Assumes nothing.
-use Rattle.kit.specs.Names.{◌≡◌, refl, sym, Bool, true, false, cond, not, ◌||◌, List, [], ◌∷◌, ℕ, ◌+◌, ◌*◌, ◌-◌, ◌≤◌, ◌<◌, eqb, leb, ltb, arith}
+use Rattle.std.specs.Prelude.{◌≡◌, ◌||◌, ◌∷◌, ◌+◌, ◌*◌, ◌-◌, ◌≤◌, ◌<◌}
+use Rattle.kit.specs.Names.{refl, sym, Bool, true, false, cond, not, List, [], ℕ, eqb, leb, ltb, arith}
 use Rattle.kit.specs.Names.{dec_lt, eq-eqb, ne_eqb, le-leb, lt-leb, le-ltb, lt-ltb, leb-false, ltb-false}
 use denote.Enum.Declared.{tag_of}
 use types.Run.{OneOf, miss}
@@ -7,7 +8,6 @@ use Rattle.rules.specs.contracts.call.Call as call_type
 use Rattle.rules.specs.Rules.{Call, WORD, DONE}
 use Rattle.rules.specs.declared.call.Call.TheVariants.{New, Len, Find, Unioned, Join, Post, Probe, ProbeKey, TryProbe, Snapshot, Rollback, Commit}
 use Rattle.rules.specs.declared.call.Call.TheVariants.{Keys, Actions, Changes}
-use Rattle.journal.specs.contracts.entry.Entry as entry_type
 use Rattle.journal.specs.declared.known.Known.{Known}
 use Rattle.journal.specs.Numbers.{ENTRY-BYTES, TRAILER-BYTES, SEGMENT}
 use Rattle.journal.specs.Written.{entry_for}

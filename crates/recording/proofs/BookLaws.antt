@@ -1,5 +1,6 @@
 -- What the journal is once waiting entries are made a segment, and once an entry is put down. Assumes nothing.
-use Rattle.kit.specs.Names.{◌≡◌, refl, ap, ◌∙◌, true, false, ℕ, suc, ◌+◌, ◌*◌, ◌≤◌, ◌<◌, length, sets, add-one, arith}
+use Rattle.std.specs.Prelude.{◌≡◌, ◌+◌, ◌*◌, ◌≤◌, ◌<◌}
+use Rattle.kit.specs.Names.{refl, ap, ◌∙◌, true, false, ℕ, suc, length, sets, add-one, arith}
 use Rattle.kit.specs.Names.{eq-eqb, ne_eqb, le-leb, lt-leb, le-ltb, lt-ltb, ltb-false}
 use Rattle.rules.specs.Rules.{WORD, DONE}
 use Rattle.journal.specs.declared.entry.Entry.{Entry}

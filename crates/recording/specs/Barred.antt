@@ -1,5 +1,6 @@
 -- Why a call is not carried out for the journal's sake, as a number, and the room that an entry has where it is.
-use Rattle.kit.specs.Names.{Bool, cond, ◌&&◌, List, [], ◌∷◌, ℕ, ◌+◌, ◌≤◌, ◌<◌, length}
+use Rattle.std.specs.Prelude.{◌&&◌, ◌∷◌, ◌+◌, ◌≤◌, ◌<◌}
+use Rattle.kit.specs.Names.{Bool, cond, List, [], ℕ}
 use Rattle.rules.specs.Rules.{WORD, DONE, BAD-JOURNAL, NO-ROOM}
 use Rattle.journal.specs.declared.entry.Entry.{Entry}
 use Rattle.journal.specs.declared.entry.Entry.TheVariants.{EntryNew, EntryPost, EntryJoin, EntrySnapshot, EntryRollback, EntryCommit, NoEntry}

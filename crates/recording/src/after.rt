@@ -1,5 +1,5 @@
 // Document 02, Q-1: "Exactly the DONE calls of these six kinds are written, in order."
-ghost use Rattle.kit.specs.Names.{◌≡◌, true, length};
+ghost use Rattle.std.specs.Prelude.{◌≡◌, true, length};
 ghost use Rattle.journal.specs.Record.{book, is_written, sealed_if_full, put_down};
 ghost use Rattle.recording.specs.Barred.{as_written, RoomForOne, Sealable};
 

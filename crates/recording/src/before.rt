@@ -1,4 +1,4 @@
-ghost use Rattle.kit.specs.Names.{◌≡◌, ◌≤◌};
+ghost use Rattle.std.specs.Prelude.{◌≡◌, ◌≤◌};
 ghost use Rattle.journal.specs.Numbers.{SEGMENT};
 ghost use Rattle.journal.specs.Written.{entry_for};
 ghost use Rattle.journal.specs.Record.{too_long};

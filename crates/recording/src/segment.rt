@@ -1,4 +1,4 @@
-ghost use Rattle.kit.specs.Names.{◌≡◌, length};
+ghost use Rattle.std.specs.Prelude.{◌≡◌, length};
 ghost use Rattle.journal.specs.Record.{book, sealed, flushed, flush, too_long};
 ghost use Rattle.recording.specs.Barred.{Sealable};
 

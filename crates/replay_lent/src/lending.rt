@@ -1,6 +1,6 @@
 // How much of the memory is lent to the table: what the words ask for, or one more than document 01's limits where they ask for more
 // than that, and never more than there is.
-ghost use Rattle.kit.specs.Names.{◌*◌, ◌≤◌};
+ghost use Rattle.std.specs.Prelude.{◌*◌, ◌≤◌};
 
 // The smaller of two.
 fn fewer(a: usize, b: usize) -> usize

@@ -1,4 +1,4 @@
-ghost use Rattle.kit.specs.Names.{◌≤◌, length};
+ghost use Rattle.std.specs.Prelude.{◌≤◌, length};
 
 use crate::lending::{entries_lent, entries_wanted, rows_lent};
 use commands::command::Lengths;

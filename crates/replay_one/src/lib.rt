@@ -1,2 +1,4 @@
 // An entry of the journal carried out.
+#![tactic(auto)]
+
 pub mod one;

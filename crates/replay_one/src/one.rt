@@ -1,5 +1,5 @@
-ghost use Rattle.kit.specs.Names.{◌≡◌};
-ghost use Rattle.rules.specs.Rules.{rows_now, table_lent, outcome, sizes_of, bad, step};
+ghost use Rattle.std.specs.Prelude.{◌≡◌};
+ghost use Rattle.rules.specs.Rules.{rows_lent, table_lent, outcome, sizes_of, bad, step};
 ghost use Rattle.layout.specs.State.{Sized, state_by};
 ghost use Rattle.journal.specs.Replay.{call_for};
 
@@ -23,11 +23,12 @@ pub fn replay_entry(
     entry: Entry,
 ) -> Settled
     requires sized { Sized numbers.old serials.old }
-    requires is_bad_value { is_bad ≡ bad (sizes_of (rows_now parents crowns amounts) log.old) head }
-    ensures* { let t = table_lent parents crowns amounts log in
-        λ r. ⌜ outcome r.answer (t.exit (state_by r.head numbers.new serials.new))
-        ≡ step (t.entry (state_by head numbers.old serials.old))
-        (call_for (state_by head numbers.old serials.old) entry) ⌝ }
+    requires is_bad_value { is_bad ≡ bad (sizes_of (rows_lent parents.old crowns.old amounts.old) log.old) head }
+    ensures { let t = table_lent parents.old crowns.old amounts.old log.old in
+        let after = table_lent parents.new crowns.new amounts.new log.new in
+        outcome result.answer (after (state_by result.head numbers.new serials.new))
+        ≡ step (t (state_by head numbers.old serials.old))
+        (call_for (state_by head numbers.old serials.old) entry) }
 {
     if is_bad {
         return refuse_bad(head);

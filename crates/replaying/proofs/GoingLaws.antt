@@ -1,5 +1,6 @@
 -- What is left of a valid journal leads to the same end. Assumes nothing.
-use Rattle.kit.specs.Names.{◌≡◌, refl, sym, ap, ◌∙◌, subst, Bool, true, false, ◌||◌, true≢false, List, ◌∷◌, ℕ, suc, ◌+◌, ◌≤◌, ◌<◌, length, arith}
+use Rattle.std.specs.Prelude.{◌≡◌, ◌||◌, ◌∷◌, ◌+◌, ◌≤◌, ◌<◌}
+use Rattle.kit.specs.Names.{refl, sym, ap, ◌∙◌, subst, Bool, true, false, true≢false, List, ℕ, suc, length, arith}
 use Rattle.kit.specs.Names.{eqb, eq-eqb, ne_eqb, le_refl}
 use Rattle.rules.specs.Rules.{Answer, Head, State, BAD-JOURNAL, DONE, Rows, Log, Table, table, head_of, Outcome, outcome, sizes_of, stray, bad, bad_table, step}
 use Rattle.bad_state.proofs.GoodLaws.{bad_after}

@@ -1,2 +1,4 @@
 // A journal replayed.
+#![tactic(auto)]
+
 pub mod replay;

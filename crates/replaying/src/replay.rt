@@ -1,6 +1,6 @@
 // Document 02, Q-1: "Replay stops at the first entry not answered DONE and names it."
-ghost use Rattle.kit.specs.Names.{◌≡◌, true};
-ghost use Rattle.rules.specs.Rules.{rows_now, table_lent, sizes_of, bad};
+ghost use Rattle.std.specs.Prelude.{◌≡◌, true};
+ghost use Rattle.rules.specs.Rules.{rows_lent, table_lent, sizes_of, bad};
 ghost use Rattle.layout.specs.State.{Sized, state_by, state_of};
 ghost use Rattle.journal.specs.Journal.{valid};
 ghost use Rattle.journal.specs.Replay.{replay_bytes};
@@ -39,9 +39,10 @@ fn replay_valid(
 ) -> Ended
     requires sized { Sized numbers.old serials.old }
     requires bytes_value { valid bytes.now ≡ true }
-    ensures* { let t = table_lent parents crowns amounts log in
-        λ r. ⌜ replayed_by r.no r.entry (t.exit (state_by r.head numbers.new serials.new))
-        ≡ replay_bytes bytes.now (t.entry (state_by begun numbers.old serials.old)) ⌝ }
+    ensures { let t = table_lent parents.old crowns.old amounts.old log.old in
+        let after = table_lent parents.new crowns.new amounts.new log.new in
+        replayed_by result.no result.entry (after (state_by result.head numbers.new serials.new))
+        ≡ replay_bytes bytes.now (t (state_by begun numbers.old serials.old)) }
 {
     let mut head = begun;
     let mut is_bad = bad_state(head, parents.len(), crowns.len(), amounts.len(), log.len());
@@ -94,9 +95,10 @@ pub fn replay(
     bytes: &[u8],
 ) -> Ended
     requires { Sized numbers.old serials.old }
-    ensures* { let t = table_lent parents crowns amounts log in
-        λ r. ⌜ replayed_by r.no r.entry (t.exit (state_of numbers.new serials.new))
-        ≡ replay_bytes bytes.now (t.entry (state_of numbers.old serials.old)) ⌝ }
+    ensures { let t = table_lent parents.old crowns.old amounts.old log.old in
+        let after = table_lent parents.new crowns.new amounts.new log.new in
+        replayed_by result.no result.entry (after (state_of numbers.new serials.new))
+        ≡ replay_bytes bytes.now (t (state_of numbers.old serials.old)) }
 {
     let head = head_of(numbers);
     if !valid(bytes) {

@@ -1,5 +1,6 @@
 -- Laws of reading a journal from its end: each trailer says what the part before it must be. Assumes nothing.
-use Rattle.kit.specs.Names.{◌≡◌, refl, sym, ap, ◌∙◌, Bool, true, false, cond, ◌&&◌, List, [], ◌++◌, ℕ, suc, ◌+◌, ◌*◌, ◌-◌, ◌≤◌, ◌<◌}
+use Rattle.std.specs.Prelude.{◌≡◌, ◌&&◌, ◌++◌, ◌+◌, ◌*◌, ◌-◌, ◌≤◌, ◌<◌}
+use Rattle.kit.specs.Names.{refl, sym, ap, ◌∙◌, Bool, true, false, cond, List, [], ℕ, suc}
 use Rattle.kit.specs.Names.{length, eqb, leb, arith, ℕ_discrete, dec_lt, le-ltb, lt-ltb, eq-eqb, ne_eqb, le-leb, lt-leb, eqb-true}
 use mathlib.Core.Bool.{and-false, and_assoc}
 use native.Mathlib.Nat.{zero-add}

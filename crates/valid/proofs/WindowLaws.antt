@@ -1,6 +1,8 @@
 -- Laws of the window: it says how many snapshots may be open. Assumes nothing.
-use Rattle.kit.specs.Names.{◌≡◌, refl, sym, ap, ◌∙◌, Bool, true, false, ◌&&◌, List, [], ◌∷◌, ◌++◌, ℕ, suc, ◌+◌, ◌*◌, ◌-◌, ◌≤◌, ◌<◌, length}
-use Rattle.kit.specs.Names.{leb, ltb, arith, dec_lt, dec_le, le-leb, lt-leb, lt-ltb, le-ltb, ltb-true, lt_of_not-le, ◌↔◌}
+use Rattle.std.specs.Prelude.{◌≡◌, ◌&&◌, ◌∷◌, ◌++◌, ◌+◌, ◌*◌, ◌-◌, ◌≤◌, ◌<◌}
+use Rattle.kit.specs.Names.{refl, sym, ap, ◌∙◌, Bool, true, false, List, [], ℕ, suc, length}
+use Rattle.std.specs.Prelude.{◌↔◌}
+use Rattle.kit.specs.Names.{leb, ltb, arith, dec_lt, dec_le, le-leb, lt-leb, lt-ltb, le-ltb, ltb-true, lt_of_not-le}
 use mathlib.Core.Bool.{and-false, and_assoc}
 use Rattle.rules.specs.Rules.{MAX-OPEN}
 use Rattle.journal.specs.declared.entry.Entry.{Entry}

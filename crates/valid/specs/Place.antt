@@ -1,5 +1,6 @@
 -- What the part of a journal up to an end must be, for what follows it.
-use Rattle.kit.specs.Names.{◌≡◌, Bool, false, cond, ◌&&◌, ℕ, ◌+◌, ◌-◌, ◌≤◌, ◌<◌, length, eqb, ltb}
+use Rattle.std.specs.Prelude.{◌≡◌, ◌&&◌, ◌+◌, ◌-◌, ◌≤◌, ◌<◌}
+use Rattle.kit.specs.Names.{Bool, false, cond, ℕ, length, eqb, ltb}
 use Rattle.journal.specs.Numbers.{TRAILER-BYTES}
 use Rattle.journal.specs.Entry.{Bytes, little_at}
 use Rattle.journal.specs.Journal.{Trailer, Journal, no_journal, journal, orderly, open_in, read_to}

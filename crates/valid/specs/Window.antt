@@ -1,5 +1,6 @@
 -- How many snapshots may be open before some entries, so that they and what follows them may stand.
-use Rattle.kit.specs.Names.{Bool, cond, ◌&&◌, List, [], ◌∷◌, ℕ, ◌+◌, ◌*◌, ◌-◌, ◌≤◌, eqb, leb, ltb}
+use Rattle.std.specs.Prelude.{◌&&◌, ◌∷◌, ◌+◌, ◌*◌, ◌-◌, ◌≤◌}
+use Rattle.kit.specs.Names.{Bool, cond, List, [], ℕ, eqb, leb, ltb}
 use Rattle.rules.specs.Rules.{MAX-OPEN}
 use Rattle.journal.specs.declared.entry.Entry.{Entry}
 use Rattle.journal.specs.declared.entry.Entry.TheVariants.{EntryNew, EntryPost, EntryJoin, EntrySnapshot, EntryRollback, EntryCommit, NoEntry}

@@ -1,5 +1,5 @@
 // A journal is read from its end, one trailer after the other.
-ghost use Rattle.kit.specs.Names.{◌≡◌, ◌<◌};
+ghost use Rattle.std.specs.Prelude.{◌≡◌, ◌<◌};
 ghost use Rattle.journal.specs.Journal.{points};
 ghost use Rattle.valid.specs.Place.{back, Placed, Nowhere, Nearer};
 

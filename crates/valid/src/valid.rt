@@ -1,4 +1,4 @@
-ghost use Rattle.kit.specs.Names.{◌≡◌, []};
+ghost use Rattle.std.specs.Prelude.{◌≡◌, []};
 ghost use Rattle.journal.specs.Journal.{journal, journal_of, valid};
 ghost use Rattle.valid.specs.Place.{between, ends_in, Placed, judged, segments_told, followed_by};
 ghost use Rattle.valid.specs.Window.{Small};

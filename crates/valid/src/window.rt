@@ -1,6 +1,6 @@
 // How many snapshots may be open before an entry. This is worked out from the journal's end: what follows an entry says how many may be open
 // after it, and so before it.
-ghost use Rattle.kit.specs.Names.{◌≡◌, ◌+◌, ◌*◌, ◌-◌, ◌≤◌, ◌<◌, length};
+ghost use Rattle.std.specs.Prelude.{◌≡◌, ◌+◌, ◌*◌, ◌-◌, ◌≤◌, ◌<◌, length};
 ghost use Rattle.journal.specs.Entry.{read_entry, entries_at};
 ghost use Rattle.valid.specs.Window.{opens_of, closes_of, moved, Small, narrow, narrowed};
 

@@ -1,5 +1,6 @@
 -- Bytes written one after the other. Assumes nothing.
-use Rattle.kit.specs.Names.{◌≡◌, refl, sym, ap, ◌∙◌, [], ◌∷◌, ◌++◌, ℕ, zero, suc, ◌+◌, ◌*◌, ◌/◌, ◌%◌, ◌^◌, length, length-append, set, sets, pow-suc}
+use Rattle.std.specs.Prelude.{◌≡◌, ◌∷◌, ◌++◌, ◌+◌, ◌*◌, ◌/◌, ◌%◌, ◌^◌}
+use Rattle.kit.specs.Names.{refl, sym, ap, ◌∙◌, [], ℕ, zero, suc, length, length-append, set, sets, pow-suc}
 use Rattle.kit.specs.Names.{add-mul-mod_self_left, add-mul-div_left, arith}
 use native.Mathlib.Nat.{mul_comm, mul_assoc, mod-add-div}
 use Rattle.journal.specs.Numbers.{ENTRY-BYTES}

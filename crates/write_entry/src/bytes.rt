@@ -1,4 +1,5 @@
-ghost use Rattle.kit.specs.Names.{◌≡◌, ◌+◌, ◌≤◌, length, sets};
+ghost use Rattle.std.specs.Prelude.{◌≡◌, ◌+◌, ◌≤◌, length};
+ghost use Rattle.kit.specs.Names.{sets};
 ghost use Rattle.journal.specs.Entry.{little_endian};
 
 use rules::numbers::WORD;

@@ -1,4 +1,5 @@
-ghost use Rattle.kit.specs.Names.{◌≡◌, ◌+◌, ◌≤◌, length, sets};
+ghost use Rattle.std.specs.Prelude.{◌≡◌, ◌+◌, ◌≤◌, length};
+ghost use Rattle.kit.specs.Names.{sets};
 ghost use Rattle.journal.specs.Numbers.{SEGMENT};
 ghost use Rattle.journal.specs.Entry.{fields, entry_bytes};
 ghost use Rattle.journal.specs.Journal.{trailer_bytes, trailer_of};
