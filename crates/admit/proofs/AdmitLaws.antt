@@ -1,5 +1,6 @@
 -- Each end of the tests, and what is known of calls that pass them. Assumes nothing.
-use Rattle.kit.specs.Names.{◌≡◌, refl, sym, ap, ◌∙◌, true, false, List, ℕ, ◌*◌, ◌≤◌, ◌<◌, length, eqb, arith, dec_lt, ℕ_discrete, lt-ltb, le-ltb, eq-eqb, ne_eqb}
+use Rattle.std.specs.Prelude.{◌≡◌, ◌*◌, ◌≤◌, ◌<◌}
+use Rattle.kit.specs.Names.{refl, sym, ap, ◌∙◌, true, false, ℕ, length, arith, dec_lt, ℕ_discrete, lt-ltb, le-ltb, eq-eqb, ne_eqb}
 use Rattle.layout.specs.State.{NUMBERS, SERIALS}
 use Rattle.coding.specs.Coding.{Listed, unlisted, calls, is_listed, calls_in}
 use Rattle.admit.specs.Admit.{CARRIED-OUT, NO-STATE, NO-CALL, NO-ANSWERS, hearing, admission}

@@ -1,5 +1,6 @@
 -- What the exported functions return, by the lengths of what is lent and the calls.
-use Rattle.kit.specs.Names.{cond, not, ◌&&◌, List, ℕ, ◌*◌, length, eqb, ltb}
+use Rattle.std.specs.Prelude.{◌&&◌, ◌*◌}
+use Rattle.kit.specs.Names.{cond, not, ℕ, length, eqb, ltb}
 use Rattle.layout.specs.State.{NUMBERS, SERIALS}
 use Rattle.coding.specs.Coding.{Listed, unlisted, calls}
 

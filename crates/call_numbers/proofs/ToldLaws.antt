@@ -1,9 +1,10 @@
 -- Four numbers within a code's limits tell the call that its form makes. Assumes nothing.
-use Rattle.kit.specs.Names.{◌≡◌, sym, ap, ◌∙◌, true, [], ◌∷◌, ℕ, ◌≤◌, ◌<◌, lt-ltb, le-leb}
+use Rattle.std.specs.Prelude.{◌≡◌, ◌∷◌, ◌≤◌, ◌<◌}
+use Rattle.kit.specs.Names.{sym, ap, ◌∙◌, true, [], ℕ, lt-ltb, le-leb}
 use Rattle.rules.specs.Rules.{Call}
 use Rattle.coding.specs.declared.coding.Form.{Form}
 use Rattle.coding.specs.declared.coding.Limits.{Limits}
-use Rattle.coding.specs.Coding.{CODES, form_of, fits, asked_of, asked, is_asked, call_in, Asked}
+use Rattle.coding.specs.Coding.{CODES, form_of, fits, asked_of, asked, is_asked, call_in}
 use Rattle.call_numbers.specs.Told.{Told}
 
 all_fit : (m : Limits) (a b c : ℕ) → a ≤ m.0 → b ≤ m.1 → c ≤ m.2 → fits m a b c ≡ true

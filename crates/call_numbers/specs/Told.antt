@@ -1,5 +1,6 @@
 -- Four numbers that tell a call: read back, they are it.
-use Rattle.kit.specs.Names.{◌≡◌, true, List, ℕ}
+use Rattle.std.specs.Prelude.{◌≡◌}
+use Rattle.kit.specs.Names.{true, List, ℕ}
 use Rattle.rules.specs.Rules.{Call}
 use Rattle.coding.specs.Coding.{is_asked, asked_at, call_at}
 

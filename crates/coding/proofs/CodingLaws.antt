@@ -1,5 +1,6 @@
 -- What four numbers ask for, and what a list of them does. Assumes nothing.
-use Rattle.kit.specs.Names.{◌≡◌, refl, sym, ap, ◌∙◌, Bool, true, false, cond, ◌&&◌, List, [], ◌∷◌, ℕ, zero, suc, ◌+◌, ◌-◌, ◌*◌, ◌%◌, ◌≤◌, ◌<◌, length, get_or, drop, length-drop, leb, ltb, drop-cons}
+use Rattle.std.specs.Prelude.{◌≡◌, ◌&&◌, ◌∷◌, ◌+◌, ◌-◌, ◌*◌, ◌%◌, ◌≤◌, ◌<◌}
+use Rattle.kit.specs.Names.{refl, sym, ap, ◌∙◌, Bool, true, false, cond, List, [], ℕ, zero, suc, length, get_or, drop, length-drop, leb, ltb, drop-cons}
 use Rattle.kit.specs.Names.{arith, dec_lt, add-one, ltb-true, leb-true, lt-ltb, le-ltb, le-leb, lt-leb}
 use Rattle.rules.specs.Rules.{Call, WORD}
 use Rattle.coding.specs.declared.coding.Form.{Form}

@@ -1,5 +1,6 @@
 -- The answers of a list of calls as numbers, one after the other.
-use Rattle.kit.specs.Names.{List, [], ◌∷◌, ◌++◌, ℕ}
+use Rattle.std.specs.Prelude.{◌∷◌, ◌++◌}
+use Rattle.kit.specs.Names.{List, [], ℕ}
 use Rattle.rules.specs.Rules.{Answer, answer_numbers}
 
 unfoldable pub answers_numbers : List Answer → List ℕ

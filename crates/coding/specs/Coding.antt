@@ -1,5 +1,6 @@
 -- A call as four numbers: its code, then a, b and c.
-use Rattle.kit.specs.Names.{◌≡◌, Bool, true, false, cond, ◌&&◌, List, [], ◌∷◌, ℕ, ◌+◌, length, get_or, eqb, leb, ltb}
+use Rattle.std.specs.Prelude.{◌≡◌, ◌&&◌, ◌∷◌, ◌+◌}
+use Rattle.kit.specs.Names.{Bool, true, false, cond, List, [], ℕ, length, get_or, eqb, leb, ltb}
 use Rattle.coding.specs.declared.coding.Form.{Form}
 use Rattle.coding.specs.declared.coding.Limits.{Limits}
 use Rattle.rules.specs.Rules.{Call}

@@ -1,4 +1,4 @@
-ghost use Rattle.kit.specs.Names.{ℕ, ◌≡◌, true, ◌+◌, ◌≤◌, ◌<◌, length};
+ghost use Rattle.std.specs.Prelude.{ℕ, ◌≡◌, true, ◌+◌, ◌≤◌, ◌<◌, length};
 ghost use Rattle.coding.specs.Coding.{LONG, CODES, form_of, Formed, is_asked, asked_of, asked_at, call_in, call_at, call_list, is_listed};
 
 use rules::call::Call;

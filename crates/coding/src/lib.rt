@@ -1,2 +1,4 @@
 // Calls as the host's numbers.
+#![tactic(auto)]
+
 pub mod coding;

@@ -1,5 +1,6 @@
 -- What the tests come to is what the exported functions leave. Assumes nothing.
-use Rattle.kit.specs.Names.{◌≡◌, refl, sym, ap, ◌∙◌, Bool, true, false, cond, List, ℕ, ◌*◌, ◌≤◌, length, ltb, arith, eq-eqb, ne_eqb}
+use Rattle.std.specs.Prelude.{◌≡◌, ◌*◌, ◌≤◌}
+use Rattle.kit.specs.Names.{refl, sym, ap, ◌∙◌, Bool, true, false, cond, List, ℕ, length, ltb, arith, eq-eqb, ne_eqb}
 use Rattle.layout.specs.State.{Sized}
 use Rattle.coding.specs.Coding.{Listed, unlisted, calls, call_list, single, is_listed, calls_in}
 use Rattle.coding.proofs.CodingLaws.{four_each}

@@ -1,5 +1,6 @@
 -- No two outcomes meet the contract of an exported function: what is returned and every lent list at exit are fixed. Assumes nothing.
-use Rattle.kit.specs.Names.{◌≡◌, sym, ap, ◌∙◌, ℕ}
+use Rattle.std.specs.Prelude.{◌≡◌}
+use Rattle.kit.specs.Names.{sym, ap, ◌∙◌, ℕ}
 use Rattle.coding.specs.Coding.{Listed}
 use Rattle.runs.specs.Served.{Host}
 use Rattle.host.specs.Host.{Hosted, hosted, serve}

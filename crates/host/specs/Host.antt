@@ -1,5 +1,6 @@
 -- The outcome of an exported function, over all the lists that the host lends.
-use Rattle.kit.specs.Names.{Bool, cond, not, ◌&&◌, ℕ, ◌*◌, length, eqb, ltb}
+use Rattle.std.specs.Prelude.{◌&&◌, ◌*◌}
+use Rattle.kit.specs.Names.{Bool, cond, not, ℕ, length, eqb, ltb}
 use Rattle.layout.specs.State.{NUMBERS, SERIALS}
 use Rattle.coding.specs.Coding.{Listed, unlisted, calls}
 use Rattle.admit.specs.Admit.{CARRIED-OUT, NO-STATE, NO-CALL, NO-ANSWERS}

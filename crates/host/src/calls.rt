@@ -8,8 +8,7 @@ use coding::coding::CALL;
 use runs::list::run;
 
 // Carries out a list of calls, which is tested whole before its first call.
-#[unsafe(no_mangle)]
-pub extern "C" fn meter_calls(
+pub fn meter_calls(
     numbers: &mut [u32],
     serials: &mut [u64],
     parents: &mut [u32],
@@ -19,8 +18,9 @@ pub extern "C" fn meter_calls(
     calls: &[u64],
     answers: &mut [u64],
 ) -> u32
-    ensures* { let h = host_lent numbers serials parents crowns amounts log answers in
-        λ r. ⌜ hosted r h.exit ≡ serve h.entry (call_list calls.now) ⌝ }
+    ensures { let h = host_lent numbers.old serials.old parents.old crowns.old amounts.old log.old answers.old in
+        let after = host_lent numbers.new serials.new parents.new crowns.new amounts.new log.new answers.new in
+        hosted result after ≡ serve h (call_list calls.now) }
 {
     let code = test_calls(numbers.len(), serials.len(), calls, answers.len());
     if code != CARRIED_OUT {
@@ -33,8 +33,7 @@ pub extern "C" fn meter_calls(
 }
 
 // Carries out one call: a list of four numbers.
-#[unsafe(no_mangle)]
-pub extern "C" fn meter_call(
+pub fn meter_call(
     numbers: &mut [u32],
     serials: &mut [u64],
     parents: &mut [u32],
@@ -44,8 +43,9 @@ pub extern "C" fn meter_call(
     call: &[u64],
     answer: &mut [u64],
 ) -> u32
-    ensures* { let h = host_lent numbers serials parents crowns amounts log answer in
-        λ r. ⌜ hosted r h.exit ≡ serve h.entry (single call.now) ⌝ }
+    ensures { let h = host_lent numbers.old serials.old parents.old crowns.old amounts.old log.old answer.old in
+        let after = host_lent numbers.new serials.new parents.new crowns.new amounts.new log.new answer.new in
+        hosted result after ≡ serve h (single call.now) }
 {
     if call.len() == CALL {
         return meter_calls(

@@ -1,2 +1,4 @@
-// What C and Rust link: the table's calls over lent numbers alone.
+// The table's calls over lent numbers alone. Crate `host_c` exports them to C and what links like C.
+#![tactic(auto)]
+
 pub mod calls;

@@ -1,5 +1,6 @@
 -- Four numbers read and written. Assumes nothing.
-use Rattle.kit.specs.Names.{◌≡◌, refl, true, false, List, [], ◌∷◌, ℕ, ◌<◌, length, get_or, set, eqb, ltb, arith, eq-eqb, ne_eqb, eqb-true, ltb-true}
+use Rattle.std.specs.Prelude.{◌≡◌, ◌∷◌, ◌<◌}
+use Rattle.kit.specs.Names.{refl, true, false, List, [], ℕ, length, get_or, set, eqb, ltb, arith, eq-eqb, ne_eqb, eqb-true, ltb-true}
 use Rattle.rules.specs.Rules.{WORD}
 use Rattle.journal.proofs.ReadLaws.{both}
 use Rattle.known_numbers.specs.Known.{KNOWN, is_known}

@@ -1,5 +1,6 @@
 -- What is known of what passes the tests. Assumes nothing.
-use Rattle.kit.specs.Names.{◌≡◌, refl, Bool, true, false, cond, List, ℕ, eqb, arith, eqb-true}
+use Rattle.std.specs.Prelude.{◌≡◌}
+use Rattle.kit.specs.Names.{refl, Bool, true, false, cond, List, ℕ, eqb, arith, eqb-true}
 use Rattle.coding.specs.Coding.{Listed}
 use Rattle.admit.specs.Admit.{CARRIED-OUT, NO-STATE, admission}
 use Rattle.results.specs.Results.{RESULT, room_admission}

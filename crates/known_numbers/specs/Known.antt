@@ -1,5 +1,6 @@
 -- What a recorder knows of a journal, as the four numbers that the host lends: used, segments, open, waiting.
-use Rattle.kit.specs.Names.{Bool, ◌&&◌, List, [], ◌∷◌, ℕ, length, get_or, eqb, ltb}
+use Rattle.std.specs.Prelude.{◌&&◌, ◌∷◌}
+use Rattle.kit.specs.Names.{Bool, List, [], ℕ, length, get_or, eqb, ltb}
 use Rattle.rules.specs.Rules.{WORD}
 use Rattle.journal.specs.declared.known.Known.{Known}
 use Rattle.journal.specs.Record.{known}

@@ -1,4 +1,4 @@
-ghost use Rattle.kit.specs.Names.{◌≡◌, true, length};
+ghost use Rattle.std.specs.Prelude.{◌≡◌, true, length};
 ghost use Rattle.known_numbers.specs.Known.{KNOWN, is_known, known_in, known_numbers};
 
 use journal::known::Known;
@@ -16,6 +16,7 @@ pub fn is_known(known: &[u64]) -> bool
     known[2] < WORD
 }
 
+#[tactic(auto, using(crate::proofs::KnownLaws::four))]
 pub fn known_in(known: &[u64]) -> Known
     requires { is_known known.now ≡ true }
     ensures { result ≡ known_in known.now }
@@ -28,6 +29,7 @@ pub fn known_in(known: &[u64]) -> Known
     }
 }
 
+#[tactic(auto, using(crate::proofs::KnownLaws::four_put))]
 pub fn put_known(known: &mut [u64], after: Known)
     requires { length known.old ≡ KNOWN }
     ensures { known.new ≡ known_numbers after }

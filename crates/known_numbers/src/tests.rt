@@ -1,5 +1,5 @@
 // What the journal's exported functions return. Nothing is written before.
-ghost use Rattle.kit.specs.Names.{◌≡◌};
+ghost use Rattle.std.specs.Prelude.{◌≡◌};
 ghost use Rattle.coding.specs.Coding.{call_list};
 ghost use Rattle.known_numbers.specs.Tests.{record_admission, flush_admission, known_admission};
 

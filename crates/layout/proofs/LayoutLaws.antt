@@ -1,5 +1,6 @@
 -- The numbers of a state: what stands where, what a call writes, and that numbers and state are each other's. Assumes nothing.
-use Rattle.kit.specs.Names.{◌≡◌, refl, sym, ap, ◌∙◌, Bool, true, false, cond, List, [], ◌∷◌, map, ℕ, zero, suc, ◌+◌, ◌-◌, ◌≤◌, ◌<◌, length, get_or, set, ltb}
+use Rattle.std.specs.Prelude.{◌≡◌, ◌∷◌, ◌+◌, ◌-◌, ◌≤◌, ◌<◌}
+use Rattle.kit.specs.Names.{refl, sym, ap, ◌∙◌, Bool, true, false, cond, List, [], map, ℕ, zero, suc, length, get_or, set, ltb}
 use Rattle.kit.specs.Names.{length-set, set_out, arith, add-one, lt-ltb, le-ltb, eq-eqb, ne_eqb}
 use Rattle.rules.specs.Rules.{Call, Head, Mark, State, MAX-OPEN, mark, mark_at, innermost, seek}
 use Rattle.rules.specs.declared.call.Call.TheVariants.{Rollback, Commit, Keys, Actions, Changes}

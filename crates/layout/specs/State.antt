@@ -1,6 +1,7 @@
 -- A state as lent numbers. Short ones: count, used, open, then each mark's log length and keys, outermost first. Long ones: the last
 -- serial, then each mark's serial.
-use Rattle.kit.specs.Names.{◌≡◌, List, [], ◌∷◌, map, ℕ, length, get_or, set, drop}
+use Rattle.std.specs.Prelude.{◌≡◌, ◌∷◌}
+use Rattle.kit.specs.Names.{List, [], map, ℕ, length, get_or, set, drop}
 use Rattle.rules.specs.Rules.{Head, Mark, State, mark, head}
 use Rattle.undo_log.specs.Settled.{state_with}
 

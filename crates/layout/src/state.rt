@@ -1,5 +1,5 @@
 // The state of a table as the numbers that the host lends: no more of it is read than a call is about.
-ghost use Rattle.kit.specs.Names.{◌≡◌, ◌≤◌, ◌<◌, length};
+ghost use Rattle.std.specs.Prelude.{◌≡◌, ◌≤◌, ◌<◌, length};
 ghost use Rattle.rules.specs.declared.call.Call.TheVariants.{Rollback, Keys};
 ghost use Rattle.rules.specs.Rules.{MAX-OPEN, mark_at, seek};
 ghost use Rattle.undo_log.specs.Settled.{latest, mark_for};
@@ -26,6 +26,7 @@ pub fn head_of(numbers: &[u32]) -> Head
 }
 
 // Mark `i`, from the outermost on.
+#[tactic(auto, using(crate::proofs::LayoutLaws::mark_read))]
 pub fn mark_at(numbers: &[u32], serials: &[u64], i: usize) -> Mark
     requires sized { Sized numbers.now serials.now }
     requires i_bound { i < MAX-OPEN }
@@ -73,6 +74,7 @@ fn seek(numbers: &[u32], serials: &[u64], head: Head, token: u64) -> Sought
 }
 
 // The mark that a rollback or commit is about: none where more snapshots are open than there are marks.
+#[tactic(auto, unfolding(undo_log::specs::Settled::mark_for))]
 pub fn closing_mark(numbers: &[u32], serials: &[u64], head: Head, token: u64) -> Sought
     requires { Sized numbers.now serials.now }
     ensures { result ≡ mark_for (state_by head numbers.now serials.now) (Rollback token) }
@@ -84,6 +86,7 @@ pub fn closing_mark(numbers: &[u32], serials: &[u64], head: Head, token: u64) ->
 }
 
 // The mark that a question is about.
+#[tactic(auto, unfolding(undo_log::specs::Settled::mark_for))]
 pub fn asked_mark(numbers: &[u32], serials: &[u64], head: Head, token: u64) -> Sought
     requires { Sized numbers.now serials.now }
     ensures { result ≡ mark_for (state_by head numbers.now serials.now) (Keys token) }

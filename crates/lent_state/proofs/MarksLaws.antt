@@ -1,5 +1,6 @@
 -- The marks that numbers are, one by one. Assumes nothing.
-use Rattle.kit.specs.Names.{◌≡◌, sym, ap, ◌∙◌, List, ℕ, ◌+◌, ◌<◌, length, get_or, set, drop, length-set, length-map, get_or-set_same, get_or-set_other, arith}
+use Rattle.std.specs.Prelude.{◌≡◌, ◌+◌, ◌<◌}
+use Rattle.kit.specs.Names.{sym, ap, ◌∙◌, List, ℕ, length, get_or, set, drop, length-set, length-map, get_or-set_same, get_or-set_other, arith}
 use lib.Seq.{ext_get_or}
 use native.Mathlib.Decide.{ℕ_discrete}
 use Rattle.rules.specs.Rules.{Mark, MAX-OPEN, mark, mark_at}

@@ -1,4 +1,4 @@
-ghost use Rattle.kit.specs.Names.{◌≡◌, drop};
+ghost use Rattle.std.specs.Prelude.{◌≡◌, drop};
 ghost use Rattle.layout.specs.State.{Sized, marks_of, state_of};
 
 use layout::state::mark_at;

@@ -1,5 +1,6 @@
 -- One call, with its mark at hand and what it leaves written. Assumes nothing.
-use Rattle.kit.specs.Names.{◌≡◌, sym, ap, ◌∙◌, List, ℕ}
+use Rattle.std.specs.Prelude.{◌≡◌}
+use Rattle.kit.specs.Names.{sym, ap, ◌∙◌, List, ℕ}
 use Rattle.rules.specs.Rules.{Call, Head, Mark, Sought, State, Table, outcome, step}
 use Rattle.undo_log.specs.declared.tokens.Settled.{Settled}
 use Rattle.undo_log.specs.Settled.{state_with, state_after, mark_for}

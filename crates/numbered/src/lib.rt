@@ -1,2 +1,4 @@
 // A call on a table whose state is lent as numbers.
+#![tactic(auto)]
+
 pub mod one;

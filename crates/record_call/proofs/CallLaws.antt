@@ -1,5 +1,6 @@
 -- A call between the head that is read and the head that is written. Assumes nothing.
-use Rattle.kit.specs.Names.{◌≡◌, ap, ◌∙◌, List, ℕ, length}
+use Rattle.std.specs.Prelude.{◌≡◌}
+use Rattle.kit.specs.Names.{ap, ◌∙◌, List, ℕ, length}
 use Rattle.rules.specs.Rules.{Answer, Call, Head, State, Table}
 use Rattle.layout.specs.State.{NUMBERS, head_in, state_by, state_of, headed}
 use Rattle.layout.proofs.LayoutLaws.{headed_state}

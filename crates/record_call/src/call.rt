@@ -1,4 +1,4 @@
-ghost use Rattle.kit.specs.Names.{◌≡◌};
+ghost use Rattle.std.specs.Prelude.{◌≡◌};
 ghost use Rattle.rules.specs.Rules.{table_lent};
 ghost use Rattle.layout.specs.State.{Sized, state_of};
 ghost use Rattle.journal.specs.Record.{book, recorded, record_step};
@@ -19,6 +19,7 @@ pub struct Recorded {
 }
 
 // The head is read before the call and written after it.
+#[tactic(auto, using(crate::proofs::CallLaws::between))]
 pub fn record_call(
     numbers: &mut [u32],
     serials: &mut [u64],
@@ -31,9 +32,10 @@ pub fn record_call(
     call: Call,
 ) -> Recorded
     requires { Sized numbers.old serials.old }
-    ensures* { let t = table_lent parents crowns amounts log in
-        λ r. ⌜ recorded r.answer (t.exit (state_of numbers.new serials.new)) (book journal.new r.known)
-        ≡ record_step journal.old known (t.entry (state_of numbers.old serials.old)) call ⌝ }
+    ensures { let t = table_lent parents.old crowns.old amounts.old log.old in
+        let after = table_lent parents.new crowns.new amounts.new log.new in
+        recorded result.answer (after (state_of numbers.new serials.new)) (book journal.new result.known)
+        ≡ record_step journal.old known (t (state_of numbers.old serials.old)) call }
 {
     let head = head_of(numbers);
     let is_bad = bad_state(head, parents.len(), crowns.len(), amounts.len(), log.len());

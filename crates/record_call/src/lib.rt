@@ -1,2 +1,4 @@
 // A single call, carried out and written to a journal.
+#![tactic(auto)]
+
 pub mod call;

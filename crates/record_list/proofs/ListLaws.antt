@@ -1,5 +1,6 @@
 -- A list of calls that are written is a run of the rule's step. Assumes nothing.
-use Rattle.kit.specs.Names.{◌≡◌, refl, sym, ap, ◌∙◌, subst, Bool, true, ◌||◌, List, [], ◌∷◌, ◌++◌, ℕ, suc, ◌+◌, ◌*◌, ◌≤◌, ◌<◌, length, drop, sets}
+use Rattle.std.specs.Prelude.{◌≡◌, ◌||◌, ◌∷◌, ◌++◌, ◌+◌, ◌*◌, ◌≤◌, ◌<◌}
+use Rattle.kit.specs.Names.{refl, sym, ap, ◌∙◌, subst, Bool, true, List, [], ℕ, suc, length, drop, sets}
 use Rattle.kit.specs.Names.{drop-length, arith}
 use Rattle.rules.specs.Rules.{Answer, Call, Head, Table, table, head_of, answer_numbers, sizes_of, stray, bad, bad_table}
 use Rattle.layout.specs.State.{Sized, head_in, state_numbers, state_serials, headed}

@@ -1,5 +1,6 @@
 -- Which calls are written, told by their codes, and what is put down of one. Assumes nothing.
-use Rattle.kit.specs.Names.{◌≡◌, refl, ap, ◌∙◌, Bool, true, false, cond, List, [], ◌∷◌, ℕ, zero, suc, ◌<◌, eqb, arith, eq-eqb, ne_eqb}
+use Rattle.std.specs.Prelude.{◌≡◌, ◌∷◌, ◌<◌}
+use Rattle.kit.specs.Names.{refl, ap, ◌∙◌, Bool, true, false, cond, List, [], ℕ, zero, suc, eqb, arith, eq-eqb, ne_eqb}
 use Rattle.rules.specs.Rules.{DONE}
 use Rattle.coding.specs.Coding.{form_of, is_asked, asked_of, call_in}
 use Rattle.coding.proofs.CodingLaws as coding

@@ -1,5 +1,6 @@
 -- A call that is written, from the number that bars it, what it comes to and what is put down. Assumes nothing.
-use Rattle.kit.specs.Names.{◌≡◌, refl, sym, ap, ◌∙◌, Bool, true, false, cond, ◌||◌, ◌&&◌, [], ℕ, length, eqb, arith}
+use Rattle.std.specs.Prelude.{◌≡◌, ◌||◌, ◌&&◌}
+use Rattle.kit.specs.Names.{refl, sym, ap, ◌∙◌, Bool, true, false, cond, [], ℕ, length, eqb, arith}
 use Rattle.rules.specs.Rules.{Answer, Call, Table, DONE, head_of, refusal, Outcome, outcome, sizes_of, stray, bad_table, step}
 use Rattle.rules.proofs.StateLaws.{roomy_bad, good_roomy, bad_good}
 use Rattle.bad_state.proofs.GoodLaws.{bad_after}

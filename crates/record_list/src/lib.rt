@@ -1,2 +1,4 @@
 // Document 02, Q-1: a list of calls, carried out and written to a journal.
+#![tactic(auto)]
+
 pub mod list;

@@ -1,5 +1,5 @@
-ghost use Rattle.kit.specs.Names.{◌≡◌, true, cond, [], ◌+◌, ◌*◌, ◌≤◌, length, eqb};
-ghost use Rattle.rules.specs.Rules.{DONE, rows_now, table_lent, sizes_of, bad};
+ghost use Rattle.std.specs.Prelude.{◌≡◌, true, cond, [], ◌+◌, ◌*◌, ◌≤◌, length, eqb};
+ghost use Rattle.rules.specs.Rules.{DONE, rows_lent, table_lent, sizes_of, bad};
 ghost use Rattle.layout.specs.State.{Sized, state_by};
 ghost use Rattle.coding.specs.Coding.{is_asked, asked_at, call_at, call_list, is_listed, calls_in};
 ghost use Rattle.journal.specs.Written.{entry_for};
@@ -94,12 +94,13 @@ pub fn record_next(
     requires sized { Sized numbers.old serials.old }
     requires at_in_bounds { at + 4 ≤ length calls.now }
     requires at_value { is_asked (asked_at calls.now at) ≡ true }
-    requires is_bad_value { is_bad ≡ bad (sizes_of (rows_now parents crowns amounts) log.old) head }
-    ensures* { let t = table_lent parents crowns amounts log in
-        λ r. ⌜ recorded r.settled.answer (t.exit (state_by r.settled.head numbers.new serials.new))
-        (book journal.new r.known)
-        ≡ record_step journal.old known (t.entry (state_by head numbers.old serials.old))
-        (call_at calls.now at) ⌝ }
+    requires is_bad_value { is_bad ≡ bad (sizes_of (rows_lent parents.old crowns.old amounts.old) log.old) head }
+    ensures { let t = table_lent parents.old crowns.old amounts.old log.old in
+        let after = table_lent parents.new crowns.new amounts.new log.new in
+        recorded result.settled.answer (after (state_by result.settled.head numbers.new serials.new))
+        (book journal.new result.known)
+        ≡ record_step journal.old known (t (state_by head numbers.old serials.old))
+        (call_at calls.now at) }
 {
     let mine = is_mine(calls[at]);
     let no = barred(mine, known, head.open, journal.len());
@@ -143,9 +144,10 @@ pub fn run_recorded(
     requires sized { Sized numbers.old serials.old }
     requires calls_value { is_listed (call_list calls.now) ≡ true }
     requires calls_bound { 9 * length calls.now ≤ 4 * length answers.old }
-    ensures* { let h = host_lent numbers serials parents crowns amounts log answers in
-        λ r. ⌜ lent h.exit (book journal.new r)
-        ≡ recorded_from 0 h.entry (book journal.old known) (calls_in (call_list calls.now)) ⌝ }
+    ensures { let h = host_lent numbers.old serials.old parents.old crowns.old amounts.old log.old answers.old in
+        let after = host_lent numbers.new serials.new parents.new crowns.new amounts.new log.new answers.new in
+        lent after (book journal.new result)
+        ≡ recorded_from 0 h (book journal.old known) (calls_in (call_list calls.now)) }
 {
     let mut head = head_of(numbers);
     let mut is_bad = bad_state(head, parents.len(), crowns.len(), amounts.len(), log.len());

@@ -1,5 +1,6 @@
 -- What the tests and the work come to is what the journal's exported functions leave. Assumes nothing.
-use Rattle.kit.specs.Names.{◌≡◌, sym, ap, ◌∙◌, true, false, List, ℕ, length, eq-eqb, ne_eqb}
+use Rattle.std.specs.Prelude.{◌≡◌}
+use Rattle.kit.specs.Names.{sym, ap, ◌∙◌, true, false, List, ℕ, length, eq-eqb, ne_eqb}
 use Rattle.rules.specs.Rules.{DONE, BAD-JOURNAL}
 use Rattle.coding.specs.Coding.{Listed, call_list, calls_in}
 use Rattle.journal.specs.declared.known.Known.{Known}

@@ -1,5 +1,6 @@
 -- No two outcomes meet the contract of an exported function that writes a journal or judges one. Assumes nothing.
-use Rattle.kit.specs.Names.{◌≡◌, sym, ap, ◌∙◌, ℕ}
+use Rattle.std.specs.Prelude.{◌≡◌}
+use Rattle.kit.specs.Names.{sym, ap, ◌∙◌, ℕ}
 use Rattle.coding.specs.Coding.{Listed}
 use Rattle.journal.specs.Entry.{Bytes}
 use Rattle.recorder.specs.Journals.{Returned, returned, RecordLent, serve_record, FlushLent, serve_flush, AppendLent, serve_append, KnownLent, serve_known}

@@ -29,9 +29,10 @@ pub extern "C" fn meter_record(
     journal: &mut [u8],
     known: &mut [u64],
 ) -> u32
-    ensures* { let h = host_lent numbers serials parents crowns amounts log answers in
-        λ r. ⌜ returned r (record_lent h.exit journal.new known.new)
-        ≡ serve_record (record_lent h.entry journal.old known.old) (call_list calls.now) ⌝ }
+    ensures { let h = host_lent numbers.old serials.old parents.old crowns.old amounts.old log.old answers.old in
+        let after = host_lent numbers.new serials.new parents.new crowns.new amounts.new log.new answers.new in
+        returned result (record_lent after journal.new known.new)
+        ≡ serve_record (record_lent h journal.old known.old) (call_list calls.now) }
 {
     let code = test_record(numbers.len(), serials.len(), calls, answers.len(), known);
     if code != CARRIED_OUT {

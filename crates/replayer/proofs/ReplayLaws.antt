@@ -1,5 +1,6 @@
 -- What the tests and a replay come to is what the exported replay leaves. Assumes nothing.
-use Rattle.kit.specs.Names.{◌≡◌, refl, sym, ap, ◌∙◌, Bool, true, false, cond, not, List, ℕ, length, eqb, arith}
+use Rattle.std.specs.Prelude.{◌≡◌}
+use Rattle.kit.specs.Names.{refl, sym, ap, ◌∙◌, Bool, true, false, cond, not, List, ℕ, length, eqb, arith}
 use Rattle.rules.specs.Rules.{Rows, Log, table}
 use Rattle.layout.specs.State.{Sized, state_of, state_numbers, state_serials}
 use Rattle.layout.proofs.LayoutLaws.{numbers_state}

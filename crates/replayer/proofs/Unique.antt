@@ -1,5 +1,6 @@
 -- No two outcomes meet the contract of an exported replay. Assumes nothing.
-use Rattle.kit.specs.Names.{◌≡◌, ℕ}
+use Rattle.std.specs.Prelude.{◌≡◌}
+use Rattle.kit.specs.Names.{ℕ}
 use Rattle.runs.specs.Served.{Host}
 use Rattle.journal.specs.Entry.{Bytes}
 use Rattle.host.specs.Host.{hosted}

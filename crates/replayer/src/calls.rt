@@ -20,8 +20,9 @@ pub extern "C" fn meter_replay(
     journal: &[u8],
     res: &mut [u64],
 ) -> u32
-    ensures* { let h = host_lent numbers serials parents crowns amounts log res in
-        λ r. ⌜ hosted r h.exit ≡ serve_replay h.entry journal.now ⌝ }
+    ensures { let h = host_lent numbers.old serials.old parents.old crowns.old amounts.old log.old res.old in
+        let after = host_lent numbers.new serials.new parents.new crowns.new amounts.new log.new res.new in
+        hosted result after ≡ serve_replay h journal.now }
 {
     let code = test_result(numbers.len(), serials.len(), res.len());
     if code != CARRIED_OUT {

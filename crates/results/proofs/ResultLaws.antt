@@ -1,5 +1,6 @@
 -- Two numbers written, and each end of the tests. Assumes nothing.
-use Rattle.kit.specs.Names.{◌≡◌, refl, List, [], ◌∷◌, ℕ, length, set, arith, ℕ_discrete, eq-eqb, ne_eqb}
+use Rattle.std.specs.Prelude.{◌≡◌, ◌∷◌}
+use Rattle.kit.specs.Names.{refl, List, [], ℕ, length, set, arith, ℕ_discrete, eq-eqb, ne_eqb}
 use Rattle.layout.specs.State.{NUMBERS, SERIALS}
 use Rattle.admit.specs.Admit.{CARRIED-OUT, NO-STATE, NO-ANSWERS}
 use Rattle.results.specs.Results.{RESULT, result_numbers, result_admission}

@@ -1,5 +1,6 @@
 -- A result: a number of refusal, and the length or the place that goes with it.
-use Rattle.kit.specs.Names.{cond, not, ◌&&◌, List, [], ◌∷◌, ℕ, eqb}
+use Rattle.std.specs.Prelude.{◌&&◌, ◌∷◌}
+use Rattle.kit.specs.Names.{cond, not, List, [], ℕ, eqb}
 use Rattle.layout.specs.State.{NUMBERS, SERIALS}
 use Rattle.admit.specs.Admit.{CARRIED-OUT, NO-STATE, NO-ANSWERS}
 

@@ -1,4 +1,4 @@
-ghost use Rattle.kit.specs.Names.{◌≡◌, length};
+ghost use Rattle.std.specs.Prelude.{◌≡◌, length};
 ghost use Rattle.results.specs.Results.{RESULT, result_numbers, result_admission, room_admission};
 
 use admit::tests::{CARRIED_OUT, NO_ANSWERS, NO_STATE};
@@ -8,6 +8,7 @@ use layout::state::{NUMBERS, SERIALS};
 pub const RESULT: usize = 2;
 
 // What is returned, by how many numbers are lent for the state and for the result.
+#[tactic(auto, using(crate::proofs::ResultLaws::no_numbers, crate::proofs::ResultLaws::no_serials, crate::proofs::ResultLaws::no_result, crate::proofs::ResultLaws::all_there))]
 pub fn test_result(numbers: usize, serials: usize, res: usize) -> u32
     ensures { result ≡ result_admission numbers serials res }
 {
@@ -33,6 +34,7 @@ pub fn test_room(res: usize) -> u32
     CARRIED_OUT
 }
 
+#[tactic(auto, using(crate::proofs::ResultLaws::two_put))]
 pub fn put_result(res: &mut [u64], no: u32, n: usize)
     requires { length res.old ≡ RESULT }
     ensures { res.new ≡ result_numbers no n }

@@ -1,5 +1,6 @@
 -- A list of calls on lent numbers is a run of the rules' step. Assumes nothing.
-use Rattle.kit.specs.Names.{◌≡◌, refl, sym, ap, ◌∙◌, subst, Bool, true, false, cond, ◌&&◌, ◌||◌, List, [], ◌++◌, ℕ, zero, suc, ◌+◌, ◌-◌, ◌*◌, ◌≤◌, ◌<◌, length, drop, sets, ltb, drop-length, arith}
+use Rattle.std.specs.Prelude.{◌≡◌, ◌&&◌, ◌||◌, ◌++◌, ◌+◌, ◌-◌, ◌*◌, ◌≤◌, ◌<◌}
+use Rattle.kit.specs.Names.{refl, sym, ap, ◌∙◌, subst, Bool, true, false, cond, List, [], ℕ, zero, suc, length, drop, sets, ltb, drop-length, arith}
 use Rattle.rules.specs.Rules.{Answer, Call, Head, Sought, State, Table, table, head_of, answer_numbers, Outcome, outcome, sizes_of, stray, bad}
 use Rattle.rules.specs.Rules.{bad_table, step}
 use Rattle.rules.specs.declared.call.Call.TheVariants.{Rollback, Keys}
@@ -8,7 +9,7 @@ use Rattle.bad_state.proofs.GoodLaws.{bad_after}
 use Rattle.layout.specs.State.{Sized, head_in, state_by, headed}
 use Rattle.layout.proofs.LayoutLaws.{no_mark, commit_mark, actions_mark, changes_mark, numbers_state, headed_state, headed_length, headed_same}
 use Rattle.undo_log.specs.Settled.{mark_of, mark_for}
-use Rattle.coding.specs.Coding.{Asked, nothing, asked, CODES, form_of, fits, is_asked, asked_of, call_in, call_list, is_listed, calls_in, call_at}
+use Rattle.coding.specs.Coding.{nothing, asked, CODES, form_of, fits, is_asked, asked_of, call_in, call_list, is_listed, calls_in, call_at}
 use Rattle.coding.specs.Answers.{answers_numbers}
 use Rattle.coding.proofs.CodingLaws.{known, made, Next, next_call}
 use Rattle.runs.specs.Run.{run}

@@ -1,7 +1,6 @@
 -- All the lists that the host lends, and what calls that are carried out leave of them.
-use Rattle.kit.specs.Names.{List, ℕ, sets, now}
-use denote.Triple.Both.{Both}
-use Rattle.rules.specs.Rules.{Call, Rows, Log, Table, table, Slice, BothEnds, rows_now}
+use Rattle.kit.specs.Names.{List, ℕ, sets}
+use Rattle.rules.specs.Rules.{Call, Rows, Log, Table, table, rows_lent}
 use Rattle.layout.specs.State.{state_of, state_numbers, state_serials}
 use Rattle.coding.specs.Answers.{answers_numbers}
 use Rattle.runs.specs.Run.{run}
@@ -28,13 +27,6 @@ served h cs =
     let s = r.table.state in
     host (state_numbers s) (state_serials s) r.table.rows r.table.log (sets h.answers 0 (answers_numbers r.answers))
 
--- In an `ensures`: all that is lent, at both ends.
-abbrev pub host_now : Slice → Slice → Slice → Slice → Slice → Slice → Slice → Host
-host_now ns ss p c a l answers = host (now ns) (now ss) (rows_now p c a) (now l) (now answers)
-
-abbrev pub host_lent : BothEnds → BothEnds → BothEnds → BothEnds → BothEnds → BothEnds → BothEnds → Both Host Host
-host_lent ns ss p c a l answers =
-    record {
-      entry = host_now ns.entry ss.entry p.entry c.entry a.entry l.entry answers.entry;
-      exit = host_now ns.exit ss.exit p.exit c.exit a.exit l.exit answers.exit;
-    }
+-- All that is lent, of what the slices hold.
+abbrev pub host_lent : List ℕ → List ℕ → List ℕ → List ℕ → List ℕ → List ℕ → List ℕ → Host
+host_lent ns ss p c a l answers = host ns ss (rows_lent p c a) l answers

@@ -1,2 +1,4 @@
 // A list of calls on a table whose state is lent as numbers.
+#![tactic(auto)]
+
 pub mod list;

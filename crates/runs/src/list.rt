@@ -1,5 +1,5 @@
-ghost use Rattle.kit.specs.Names.{◌≡◌, true, ◌+◌, ◌*◌, ◌≤◌, length};
-ghost use Rattle.rules.specs.Rules.{rows_now, table_lent, outcome, sizes_of, bad, step};
+ghost use Rattle.std.specs.Prelude.{◌≡◌, true, ◌+◌, ◌*◌, ◌≤◌, length};
+ghost use Rattle.rules.specs.Rules.{rows_lent, table_lent, outcome, sizes_of, bad, step};
 ghost use Rattle.undo_log.specs.Settled.{mark_for};
 ghost use Rattle.layout.specs.State.{Sized, state_by};
 ghost use Rattle.coding.specs.Coding.{is_asked, asked_at, call_at, call_list, is_listed, calls_in};
@@ -16,6 +16,7 @@ use write_answer::answers::put;
 use write_state::after::write_head;
 
 // The mark that the call at a place of a list is about. Most calls name no token, which their codes tell.
+#[tactic(auto, using(crate::proofs::RunLaws::code_names_none, crate::proofs::RunLaws::code_closes, crate::proofs::RunLaws::code_asks))]
 fn sought_at(numbers: &[u32], serials: &[u64], calls: &[u64], at: usize, head: Head) -> Sought
     requires sized { Sized numbers.now serials.now }
     requires at_in_bounds { at + 4 ≤ length calls.now }
@@ -33,6 +34,7 @@ fn sought_at(numbers: &[u32], serials: &[u64], calls: &[u64], at: usize, head: H
 }
 
 // The call at a place of a list. Whether the table is bad is known from the call before, which is quicker than to find it out.
+#[tactic(auto, using(bad_state::proofs::GoodLaws::refused_bad))]
 pub fn next(
     numbers: &mut [u32],
     serials: &mut [u64],
@@ -48,10 +50,11 @@ pub fn next(
     requires sized { Sized numbers.old serials.old }
     requires at_in_bounds { at + 4 ≤ length calls.now }
     requires at_value { is_asked (asked_at calls.now at) ≡ true }
-    requires is_bad_value { is_bad ≡ bad (sizes_of (rows_now parents crowns amounts) log.old) head }
-    ensures* { let t = table_lent parents crowns amounts log in
-        λ r. ⌜ outcome r.answer (t.exit (state_by r.head numbers.new serials.new))
-        ≡ step (t.entry (state_by head numbers.old serials.old)) (call_at calls.now at) ⌝ }
+    requires is_bad_value { is_bad ≡ bad (sizes_of (rows_lent parents.old crowns.old amounts.old) log.old) head }
+    ensures { let t = table_lent parents.old crowns.old amounts.old log.old in
+        let after = table_lent parents.new crowns.new amounts.new log.new in
+        outcome result.answer (after (state_by result.head numbers.new serials.new))
+        ≡ step (t (state_by head numbers.old serials.old)) (call_at calls.now at) }
 {
     if is_bad {
         return refuse_bad(head);
@@ -77,8 +80,9 @@ pub fn run(
     requires sized { Sized numbers.old serials.old }
     requires calls_value { is_listed (call_list calls.now) ≡ true }
     requires calls_bound { 9 * length calls.now ≤ 4 * length answers.old }
-    ensures* { let h = host_lent numbers serials parents crowns amounts log answers in
-        λ r. ⌜ h.exit ≡ served h.entry (calls_in (call_list calls.now)) ⌝ }
+    ensures { let h = host_lent numbers.old serials.old parents.old crowns.old amounts.old log.old answers.old in
+        let after = host_lent numbers.new serials.new parents.new crowns.new amounts.new log.new answers.new in
+        after ≡ served h (calls_in (call_list calls.now)) }
 {
     let mut head = head_of(numbers);
     let mut is_bad = bad_state(head, parents.len(), crowns.len(), amounts.len(), log.len());

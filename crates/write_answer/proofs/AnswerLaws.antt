@@ -1,5 +1,6 @@
 -- Numbers stored one after the other. Assumes nothing.
-use Rattle.kit.specs.Names.{◌≡◌, refl, sym, ap, ◌∙◌, List, ◌∷◌, ℕ, suc, ◌+◌, ◌≤◌, ◌<◌, length, get_or, set, drop, length-set, drop_of_length-le, sets, drop-cons, arith, add-one}
+use Rattle.std.specs.Prelude.{◌≡◌, ◌∷◌, ◌+◌, ◌≤◌, ◌<◌}
+use Rattle.kit.specs.Names.{refl, sym, ap, ◌∙◌, List, ℕ, suc, length, get_or, set, drop, length-set, drop_of_length-le, sets, drop-cons, arith, add-one}
 
 -- The numbers below i are stored from `at` on, and the others lead to the same list.
 pub record Stored (l₀ l fs : List ℕ) (at i : ℕ) : Type 0 where

@@ -1,4 +1,5 @@
-ghost use Rattle.kit.specs.Names.{◌≡◌, ◌+◌, ◌≤◌, length, sets};
+ghost use Rattle.std.specs.Prelude.{◌≡◌, ◌+◌, ◌≤◌, length};
+ghost use Rattle.kit.specs.Names.{sets};
 ghost use Rattle.rules.specs.Rules.{answer_numbers};
 
 use makers::answer::{ANSWER, answer_numbers};

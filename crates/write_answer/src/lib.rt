@@ -1,2 +1,4 @@
 // An answer's numbers, written.
+#![tactic(auto)]
+
 pub mod answers;

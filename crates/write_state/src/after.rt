@@ -1,5 +1,5 @@
 // The numbers that a call leaves, written.
-ghost use Rattle.kit.specs.Names.{◌≡◌, length};
+ghost use Rattle.std.specs.Prelude.{◌≡◌, length};
 ghost use Rattle.undo_log.specs.Settled.{state_after};
 ghost use Rattle.layout.specs.State.{NUMBERS, Sized, state_by, headed};
 
@@ -9,6 +9,7 @@ use undo_log::tokens::Settled;
 
 // Makes the numbers stand for the state that a call leaves, but for its head, which is the caller's to keep: where the call opened a
 // snapshot, the token and the mark.
+#[tactic(auto, using(layout::proofs::LayoutLaws::after_level, layout::proofs::LayoutLaws::after_beyond, layout::proofs::LayoutLaws::after_opened))]
 pub fn write_after(numbers: &mut [u32], serials: &mut [u64], before: Head, settled: Settled)
     requires { Sized numbers.old serials.old }
     ensures { state_by settled.head numbers.new serials.new
