@@ -1,5 +1,6 @@
 -- Laws of what is lent: cut off, and handed back. Assumes nothing.
-use Rattle.kit.specs.Names.{◌≡◌, refl, ap, sym, ◌∙◌, List, ◌++◌, ℕ, ◌≤◌, min, length, take, drop, length-take, drop_of_length-le, length-take-le, take_all, take-length, drop-length, arith, dec_le}
+use Rattle.std.specs.Prelude.{◌≡◌, ◌++◌, ◌≤◌}
+use Rattle.kit.specs.Names.{refl, ap, sym, ◌∙◌, List, ℕ, min, length, take, drop, length-take, drop_of_length-le, length-take-le, take_all, take-length, drop-length, arith, dec_le}
 use Rattle.kit.specs.Names.{min-eq_left, min-eq_right}
 use Rattle.rules.specs.Rules.{Answered, Call, Rows, Log, Table, table, Outcome, Sizes, sizes, outcome_of, step}
 use Rattle.commands.specs.declared.command.Lengths.{Lengths}

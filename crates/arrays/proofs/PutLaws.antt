@@ -1,5 +1,6 @@
 -- Laws of numbers that are put into a part. Assumes nothing.
-use Rattle.kit.specs.Names.{◌≡◌, refl, sym, List, [], ◌∷◌, ℕ, suc, ◌+◌, ◌-◌, ◌≤◌, ◌<◌, length, get_or, take, drop, set, replicate, length-take, take-append-drop, drop_of_length-le, drop-cons}
+use Rattle.std.specs.Prelude.{◌≡◌, ◌∷◌, ◌+◌, ◌-◌, ◌≤◌, ◌<◌}
+use Rattle.kit.specs.Names.{refl, sym, List, [], ℕ, suc, length, get_or, take, drop, set, replicate, length-take, take-append-drop, drop_of_length-le, drop-cons}
 use Rattle.kit.specs.Names.{set_out, sets, take-set-lt, drop-set-lt, arith, add-one}
 use Rattle.arrays.specs.Room.{put_lent, zeroed}
 

@@ -1,5 +1,6 @@
 -- Laws of the room that there is. Assumes nothing.
-use Rattle.kit.specs.Names.{◌≡◌, false, ◌≤◌, ◌<◌, leb, le-leb, lt-leb}
+use Rattle.std.specs.Prelude.{◌≡◌, ◌≤◌, ◌<◌}
+use Rattle.kit.specs.Names.{false, leb, le-leb, lt-leb}
 use Rattle.commands.specs.declared.command.Lengths.{Lengths}
 use Rattle.arrays.specs.Room.{room_for}
 

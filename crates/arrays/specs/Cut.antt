@@ -1,5 +1,6 @@
 -- What a program lends of the memory that it has: of each part the first numbers, as many as CALLS.md's `table` and `lend` say.
-use Rattle.kit.specs.Names.{Bool, cond, ◌++◌, ℕ, ◌+◌, ◌-◌, ◌/◌, max, take, drop}
+use Rattle.std.specs.Prelude.{◌++◌, ◌+◌, ◌-◌, ◌/◌}
+use Rattle.kit.specs.Names.{Bool, cond, ℕ, max, take, drop}
 use Rattle.rules.specs.Rules.{Call, State, CROWN, ENTRY, Rows, Log, Table, table, Sizes, sizes_of, step}
 use Rattle.commands.specs.declared.command.Lengths.{Lengths}
 use Rattle.arrays.specs.declared.reply.Changed.{Changed}

@@ -1,5 +1,6 @@
 -- How much can be lent, and numbers put into a part.
-use Rattle.kit.specs.Names.{Bool, ◌&&◌, List, ◌++◌, ℕ, ◌-◌, ◌*◌, take, drop, replicate, leb, sets}
+use Rattle.std.specs.Prelude.{◌&&◌, ◌++◌, ◌-◌, ◌*◌}
+use Rattle.kit.specs.Names.{Bool, List, ℕ, take, drop, replicate, leb, sets}
 use Rattle.rules.specs.Rules.{CROWN, ENTRY}
 use Rattle.commands.specs.declared.command.Lengths.{Lengths}
 

@@ -1,4 +1,4 @@
-ghost use Rattle.kit.specs.Names.{◌≡◌, ℕ, min, max};
+ghost use Rattle.std.specs.Prelude.{◌≡◌, ℕ, min, max};
 ghost use Rattle.rules.specs.Rules.{ENTRY, sizes};
 ghost use Rattle.arrays.specs.Cut.{touched, most_rows};
 ghost use Rattle.arrays.specs.Room.{nothing, room_for};

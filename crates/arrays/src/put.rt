@@ -1,5 +1,5 @@
 // Numbers put into a part: each where it has a place, and no other.
-ghost use Rattle.kit.specs.Names.{◌≡◌, [], ◌∷◌};
+ghost use Rattle.std.specs.Prelude.{◌≡◌, [], ◌∷◌};
 ghost use Rattle.arrays.specs.Room.{put_lent, zeroed};
 
 // Puts numbers from place `at` of what is lent on.

@@ -7,7 +7,7 @@ use rules::call::{Answer, Call};
 use rules::table::State;
 
 // What a line is answered with.
-#[derive(Drop)]
+#[derive(Clone, Copy)]
 pub enum Reply {
     Silent,
     Error,
@@ -20,7 +20,7 @@ pub enum Reply {
 }
 
 // A reply, with the lengths and the state after the line.
-#[derive(Drop)]
+#[derive(Clone, Copy)]
 pub struct Changed {
     pub lengths: Lengths,
     pub state: State,

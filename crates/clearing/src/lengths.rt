@@ -19,7 +19,9 @@ pub fn lend(
     log: &mut [u32],
     lending: Lending,
 ) -> Changed
-    ensures* { let t = table_lent parents crowns amounts log in λ r. ⌜ left r t.exit ≡ lent_left lengths (t.entry state) lending ⌝ }
+    ensures { let t = table_lent parents.old crowns.old amounts.old log.old in
+        let after = table_lent parents.new crowns.new amounts.new log.new in
+        left result after ≡ lent_left lengths (t state) lending }
 {
     if !lending.room {
         return leaving(lengths, state, Reply::Error);

@@ -1,5 +1,6 @@
 -- The commands that there are: CALLS.md, in its order.
-use Rattle.kit.specs.Names.{Bool, true, false, cond, List, [], ◌∷◌, map, ℕ, ◌-◌, ◌^◌, get_or}
+use Rattle.std.specs.Prelude.{◌∷◌, ◌-◌, ◌^◌}
+use Rattle.kit.specs.Names.{Bool, true, false, cond, List, [], map, ℕ, get_or}
 use Prim.Native.String.{String}
 use Rattle.rules.specs.Rules.{mark}
 use Rattle.rules.specs.declared.call.Call.TheVariants.{New, Len, Find, Unioned, Join, Post, Probe, ProbeKey, TryProbe, Snapshot, Rollback, Commit, Keys, Actions, Changes}

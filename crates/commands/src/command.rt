@@ -1,12 +1,12 @@
 // The commands, and which one a form of the table of specs/Forms.antt makes of its numbers: that table is CALLS.md's.
-ghost use Rattle.kit.specs.Names.{◌≡◌, ◌<◌};
+ghost use Rattle.std.specs.Prelude.{◌≡◌, ◌<◌};
 ghost use Rattle.commands.specs.Forms.{makes_of, row_numbers};
 
 use rules::call::Call;
 use rules::table::Mark;
 
 // A row's four lent numbers as they are written in a line.
-#[derive(Drop)]
+#[derive(Clone, Copy)]
 pub struct RowNumbers {
     pub parent: u32,
     pub rank: u32,
@@ -15,7 +15,7 @@ pub struct RowNumbers {
 }
 
 // The lengths of the four lent parts, in numbers.
-#[derive(Drop)]
+#[derive(Clone, Copy)]
 pub struct Lengths {
     pub parents: u32,
     pub crowns: u32,
@@ -24,7 +24,7 @@ pub struct Lengths {
 }
 
 // What a line asks for. `Blank` prints nothing; `Error` is no command.
-#[derive(Drop)]
+#[derive(Clone, Copy)]
 pub enum Command {
     Blank,
     Error,

@@ -1,5 +1,6 @@
 -- Laws of the commands: what the code leaves is what they say. Assumes nothing.
-use Rattle.kit.specs.Names.{◌≡◌, true, false, List, [], ◌∷◌, ℕ, suc, ◌+◌, ◌*◌, ◌≤◌, ◌<◌, min, length, length-take, ltb, arith, add-one, lt-ltb, le-ltb, le-leb, lt-leb}
+use Rattle.std.specs.Prelude.{◌≡◌, ◌∷◌, ◌+◌, ◌*◌, ◌≤◌, ◌<◌}
+use Rattle.kit.specs.Names.{true, false, List, [], ℕ, suc, min, length, length-take, ltb, arith, add-one, lt-ltb, le-ltb, le-leb, lt-leb}
 use Rattle.rules.specs.Rules.{Mark, State, CROWN, ENTRY, MAX-OPEN, Rows, Log, Table, table, low_of, high_of, fresh, sizes}
 use Rattle.rules.proofs.RowLaws.{number_owner}
 use Rattle.commands.specs.declared.command.Command.{Command}

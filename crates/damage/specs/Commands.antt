@@ -1,5 +1,6 @@
 -- CALLS.md, command by command: what a line leaves of the memory, of the lengths that are lent and of the state, and its reply.
-use Rattle.kit.specs.Names.{Bool, cond, ℕ, ◌+◌, ◌*◌, set, ltb}
+use Rattle.std.specs.Prelude.{◌+◌, ◌*◌}
+use Rattle.kit.specs.Names.{Bool, cond, ℕ, set, ltb}
 use Rattle.rules.specs.Rules.{Mark, Row, State, ENTRY, MAX-OPEN, Rows, Log, Table, table, row, value, owner_of, put_row, put_old, fresh}
 use Rattle.commands.specs.declared.command.Command.{Command}
 use Rattle.commands.specs.declared.command.Command.TheVariants as command

@@ -1,6 +1,6 @@
 // What the commands for tests do, and which other lengths are asked for.
 ghost use Rattle.std.specs.Prelude.{◌≡◌};
-ghost use Rattle.rules.specs.Rules.{rows_lent, log_lent, Rows, Log, table, fresh};
+ghost use Rattle.rules.specs.Rules.{rows_lent, Rows, Log, table, fresh};
 ghost use Rattle.commands.specs.declared.command.Command.TheVariants as command;
 ghost use Rattle.arrays.specs.Cut.{left};
 ghost use Rattle.damage.specs.Commands.{lent_left, changed};
@@ -17,7 +17,7 @@ use rules::table::{Mark, State};
 
 // Other lengths that a command asks for, with the state and the reply that they leave. What lies from an old length up to the
 // new one becomes 0: for a fresh table all of it.
-#[derive(Drop)]
+#[derive(Clone, Copy)]
 pub struct Lending {
     pub room: bool,
     pub old: Lengths,
@@ -90,8 +90,9 @@ pub fn set_row(
     key: u32,
     row: RowNumbers,
 ) -> Changed
-    ensures* { let rs = rows_lent parents crowns amounts in
-        λ r. ⌜ ((l : Log) → left r (table rs.exit l) ≡ changed lengths (table rs.entry l state) (command.SetRow key row)) ⌝ }
+    ensures { let rs = rows_lent parents.old crowns.old amounts.old in
+        let after = rows_lent parents.new crowns.new amounts.new in
+        (l : Log) → left result (table after l) ≡ changed lengths (table rs l state) (command.SetRow key row) }
 {
     let a = at_most(lengths.parents, parents.len());
     let b = at_most(lengths.crowns, crowns.len());
@@ -116,8 +117,7 @@ pub fn set_entry(
     key: u32,
     row: RowNumbers,
 ) -> Changed
-    ensures* { let l = log_lent log in
-        λ r. ⌜ ((rs : Rows) → left r (table rs l.exit) ≡ changed lengths (table rs l.entry state) (command.SetEntry i kind key row)) ⌝ }
+    ensures { (rs : Rows) → left result (table rs log.new) ≡ changed lengths (table rs log.old state) (command.SetEntry i kind key row) }
 {
     let reply = done(i < most_entries(at_most(lengths.log, log.len())));
     let low = low_of(row.amount);

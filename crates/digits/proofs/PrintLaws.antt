@@ -1,5 +1,6 @@
 -- Laws of what is printed. Assumes nothing.
-use Rattle.kit.specs.Names.{◌≡◌, refl, ap, sym, ◌∙◌, List, [], ◌∷◌, ◌++◌, append_assoc, append-nil, ℕ, zero, suc, ◌+◌, ◌*◌, ◌-◌, ◌/◌, ◌%◌, ◌^◌, ◌≤◌, ◌<◌, length, get_or, set, take, drop}
+use Rattle.std.specs.Prelude.{◌≡◌, ◌∷◌, ◌++◌, ◌+◌, ◌*◌, ◌-◌, ◌/◌, ◌%◌, ◌^◌, ◌≤◌, ◌<◌}
+use Rattle.kit.specs.Names.{refl, ap, sym, ◌∙◌, List, [], append_assoc, append-nil, ℕ, zero, suc, length, get_or, set, take, drop}
 use Rattle.kit.specs.Names.{length-append, paste, paste-zero, set_split, append_snoc, take-length, take-paste, take-suc, drop-paste, length-paste, drop-drop, arith, dec_le, add-one}
 use Rattle.kit.specs.Names.{pow-le-pow_right, pow-suc, mod-lt, mod-eq_of_lt, le-div_iff_mul-le, div-lt_iff_lt-mul, lt-ltb, le-ltb}
 use Rattle.io.specs.Digits.{last_digits, IsDigitCount, hex_digit_ascii}

@@ -1,5 +1,6 @@
 -- Numbers as CALLS.md prints them, and where a text stands in a buffer.
-use Rattle.kit.specs.Names.{◌≡◌, cond, List, [], ◌∷◌, ◌++◌, ℕ, zero, suc, ◌+◌, ◌/◌, ◌%◌, ◌≤◌, ◌<◌, length, ltb, paste}
+use Rattle.std.specs.Prelude.{◌≡◌, ◌∷◌, ◌++◌, ◌+◌, ◌/◌, ◌%◌, ◌≤◌, ◌<◌}
+use Rattle.kit.specs.Names.{cond, List, [], ℕ, zero, suc, length, ltb, paste}
 
 -- ---- numbers
 

@@ -1,5 +1,5 @@
 // Bytes and numbers, printed from place `at` of a buffer on. Each function answers the place after what it wrote.
-ghost use Rattle.kit.specs.Names.{[], ◌∷◌, ◌+◌, ◌*◌, ◌≤◌, ◌<◌, length};
+ghost use Rattle.std.specs.Prelude.{[], ◌∷◌, ◌+◌, ◌*◌, ◌≤◌, ◌<◌, length};
 ghost use Rattle.digits.specs.Printed.{Printed, Wrote, spell, listed};
 
 // One byte.

@@ -1,2 +1,4 @@
 // How much of the rows, entries and marks is shown.
+#![tactic(auto)]
+
 pub mod head;

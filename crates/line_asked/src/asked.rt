@@ -7,7 +7,7 @@ use rules::call::Call;
 use words::words::{skip_blanks, word_end};
 
 // A call, a segment, or no more than a reply.
-#[derive(Drop)]
+#[derive(Clone, Copy)]
 pub enum Asked {
     Call(Call),
     Flush,

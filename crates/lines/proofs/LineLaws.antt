@@ -1,5 +1,6 @@
 -- Laws of lines and their bytes. Assumes nothing.
-use Rattle.kit.specs.Names.{◌≡◌, ap, ◌∙◌, Bool, true, false, List, ◌∷◌, ℕ, suc, ◌+◌, ◌≤◌, ◌<◌, length, get_or, set, take, drop, length-take, drop_of_length-le, List·getD-eq-default, length-take-le}
+use Rattle.std.specs.Prelude.{◌≡◌, ◌∷◌, ◌+◌, ◌≤◌, ◌<◌}
+use Rattle.kit.specs.Names.{ap, ◌∙◌, Bool, true, false, List, ℕ, suc, length, get_or, set, take, drop, length-take, drop_of_length-le, get_or-eq_default, length-take-le}
 use Rattle.kit.specs.Names.{drop-cons, get_or-take, arith, dec_le, add-one, min-le_left, min-le_right, min-eq_right, lt-ltb, le-ltb, eq-eqb, ne_eqb}
 use Rattle.parser.specs.Command.{command_of}
 use Rattle.commands.specs.declared.command.Command.TheVariants.{Blank, Error}
@@ -56,7 +57,7 @@ module _ (count : ℕ) (input : List ℕ) where
 module _ (b : List ℕ) where
   pub nothing_kept : length b ≡ 0 → Error ≡ cut_off b
   nothing_kept h =
-      let e : get_or b 0 0 ≡ 0 = List·getD-eq-default b 0 (omega arith) in
+      let e : get_or b 0 0 ≡ 0 = get_or-eq_default b 0 (omega arith) in
       rw e
 
   pub a_comment : get_or b 0 0 ≡ 35 → Blank ≡ cut_off b

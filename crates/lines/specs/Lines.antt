@@ -1,5 +1,6 @@
 -- Lines of the input: how their bytes are gathered, and which command a line is.
-use Rattle.kit.specs.Names.{Bool, true, false, cond, List, [], ◌∷◌, ℕ, ◌+◌, length, get_or, set, take, eqb, ltb}
+use Rattle.std.specs.Prelude.{◌∷◌, ◌+◌}
+use Rattle.kit.specs.Names.{Bool, true, false, cond, List, [], ℕ, length, get_or, set, take, eqb, ltb}
 use Rattle.parser.specs.Command.{command_of}
 use Rattle.commands.specs.declared.command.Command.{Command}
 use Rattle.commands.specs.declared.command.Command.TheVariants.{Blank, Error}

@@ -1,15 +1,15 @@
-ghost use Rattle.kit.specs.Names.{◌≡◌, List, ℕ, take, drop};
+ghost use Rattle.std.specs.Prelude.{◌≡◌, List, ℕ, take, drop};
 ghost use Rattle.lines.specs.Lines.{line as line_of, reached, keeping, gathering};
 
 // How much of a line is kept, and whether there was more than there is room for.
-#[derive(Drop)]
+#[derive(Clone, Copy)]
 pub struct Kept {
     pub n: usize,
     pub overlong: bool,
 }
 
 // The same after some bytes of the input: the place after them, and whether the line ended there.
-#[derive(Drop)]
+#[derive(Clone, Copy)]
 pub struct Gathered {
     pub n: usize,
     pub overlong: bool,

@@ -18,7 +18,9 @@ pub fn call_lent(
     log: &mut [u32],
     call: Call,
 ) -> Changed
-    ensures* { let t = table_lent parents crowns amounts log in λ r. ⌜ left r t.exit ≡ called lengths (t.entry state) call ⌝ }
+    ensures { let t = table_lent parents.old crowns.old amounts.old log.old in
+        let after = table_lent parents.new crowns.new amounts.new log.new in
+        left result after ≡ called lengths (t state) call }
 {
     let a = at_most(lengths.parents, parents.len()) as usize;
     let b = at_most(lengths.crowns, crowns.len()) as usize;

@@ -19,7 +19,9 @@ pub fn change(
     log: &mut [u32],
     command: Command,
 ) -> Changed
-    ensures* { let t = table_lent parents crowns amounts log in λ r. ⌜ left r t.exit ≡ changed lengths (t.entry state) command ⌝ }
+    ensures { let t = table_lent parents.old crowns.old amounts.old log.old in
+        let after = table_lent parents.new crowns.new amounts.new log.new in
+        left result after ≡ changed lengths (t state) command }
 {
     match command {
         Command::Call(call) => call_lent(lengths, state, parents, crowns, amounts, log, call),

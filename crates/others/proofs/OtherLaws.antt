@@ -1,8 +1,9 @@
 -- Laws of the commands that are no calls, told by their tags. Assumes nothing.
-use Rattle.kit.specs.Names.{◌≡◌, refl, true, [], ◌∷◌, ◌-◌, arith}
+use Rattle.std.specs.Prelude.{◌≡◌, ◌∷◌, ◌-◌}
+use Rattle.kit.specs.Names.{refl, true, [], ℕ, arith}
 use denote.Enum.Declared.{tag_of}
 use types.Run.{OneOf, miss}
-use Rattle.rules.specs.Rules.{State, Rows, Log, Table, table}
+use Rattle.rules.specs.Rules.{Mark, State, Rows, Log, Table, table}
 use Rattle.commands.specs.contracts.command.Command.{the_type}
 use Rattle.commands.specs.declared.command.Command.{Command}
 use Rattle.commands.specs.declared.command.Command.TheVariants as command
@@ -61,6 +62,25 @@ none_lent n t (command.SetEntry i kind key r) h = refl
 none_lent n t (command.SetState count used opened last) h = absurd (miss (1 ∷ 2 ∷ 7 ∷ 8 ∷ []) 9 tt h)
 none_lent n t (command.SetMark i m) h = absurd (miss (1 ∷ 2 ∷ 7 ∷ 8 ∷ []) 10 tt h)
 none_lent n t (command.Lend new) h = absurd (miss (1 ∷ 2 ∷ 7 ∷ 8 ∷ []) 11 tt h)
+
+-- where it is none of those that leave lengths
+pub else_error : (n : Lengths) (t : Table) (c : Command) → (c ≡ command.Blank → ⊥) → ((r e : ℕ) → c ≡ command.Table r e → ⊥)
+    → ((k : ℕ) → c ≡ command.Row k → ⊥) → (c ≡ command.Live → ⊥) → (c ≡ command.Dump → ⊥)
+    → ((x y z w : ℕ) → c ≡ command.SetState x y z w → ⊥) → ((i : ℕ) (m : Mark) → c ≡ command.SetMark i m → ⊥)
+    → ((l : Lengths) → c ≡ command.Lend l → ⊥) → leaving reply.Error n t ≡ lending_left n t c
+unfolding changed
+else_error n t command.Blank b a r v d s m l = absurd (b refl)
+else_error n t command.Error b a r v d s m l = refl
+else_error n t (command.Call c) b a r v d s m l = refl
+else_error n t (command.Table rows entries) b a r v d s m l = absurd (a rows entries refl)
+else_error n t (command.Row key) b a r v d s m l = absurd (r key refl)
+else_error n t command.Live b a r v d s m l = absurd (v refl)
+else_error n t command.Dump b a r v d s m l = absurd (d refl)
+else_error n t (command.SetRow key x) b a r v d s m l = refl
+else_error n t (command.SetEntry i kind key x) b a r v d s m l = refl
+else_error n t (command.SetState count used opened last) b a r v d s m l = absurd (s count used opened last refl)
+else_error n t (command.SetMark i x) b a r v d s m l = absurd (m i x refl)
+else_error n t (command.Lend new) b a r v d s m l = absurd (l new refl)
 
 pub no_call : (n : Lengths) (t : Table) (c : Command) → OneOf (0 ∷ 1 ∷ 3 ∷ 4 ∷ 5 ∷ 6 ∷ 7 ∷ 8 ∷ 9 ∷ 10 ∷ 11 ∷ []) (tag_of the_type c) → otherwise n t c ≡ changed n t c
 no_call n t command.Blank h = refl

@@ -1,2 +1,4 @@
 // Every command but a call, carried out on the lent memory.
+#![tactic(auto)]
+
 pub mod other;

@@ -22,7 +22,9 @@ pub fn other(
     log: &mut [u32],
     command: Command,
 ) -> Changed
-    ensures* { let t = table_lent parents crowns amounts log in λ r. ⌜ left r t.exit ≡ otherwise lengths (t.entry state) command ⌝ }
+    ensures { let t = table_lent parents.old crowns.old amounts.old log.old in
+        let after = table_lent parents.new crowns.new amounts.new log.new in
+        left result after ≡ otherwise lengths (t state) command }
 {
     match command {
         Command::SetRow(key, row) => set_row(lengths, state, parents, crowns, amounts, key, row),

@@ -1,6 +1,7 @@
 -- No number above its width is accepted: a line that makes a command has a form's name for its first word and as many words after it as
 -- the form has places, and each of these stands for the decimal value of its digits, within the width of its place. Assumes nothing.
-use Rattle.kit.specs.Names.{◌≡◌, refl, ap, sym, ◌∙◌, Bool, true, false, cond, List, [], ◌∷◌, ℕ, ◌≤◌, ◌<◌, length, length-map, get_or, List·getD-eq-default, List·getD-map, eqb, arith, dec_lt}
+use Rattle.std.specs.Prelude.{◌≡◌, ◌∷◌, ◌≤◌, ◌<◌}
+use Rattle.kit.specs.Names.{refl, ap, sym, ◌∙◌, Bool, true, false, cond, List, [], ℕ, length, length-map, get_or, get_or-eq_default, get_or-map, eqb, arith, dec_lt}
 use Rattle.parser.proofs.CommandLaws.{either}
 use Rattle.words.proofs.LineLaws.{placed}
 use Rattle.words.proofs.NumeralLaws.{both, in_limit}
@@ -51,9 +52,9 @@ module _ (line : List ℕ) (other : command_of line ≡ Error → ⊥) where
       let found = (placed names name).1 in
       elim (dec_lt i (length forms)) [
         | yes h ↦
-            let same : name ≡ (form_at i).name = sym (found (rw (length-map forms (λ (f : Form). f.name)) h)) ∙ List·getD-map (λ (f : Form). f.name) forms i (form_at 24) in
+            let same : name ≡ (form_at i).name = sym (found (rw (length-map forms (λ (f : Form). f.name)) h)) ∙ get_or-map (λ (f : Form). f.name) forms i (form_at 24) in
             by_form xs i (fit (form_at i).widths xs) refl h (split ∙ ap (λ w. w ∷ xs) same) is
-        | no h ↦ absurd (other (is ∙ ap (λ f. command_with f xs) (List·getD-eq-default forms (form_at 24) {n = i} (omega arith)) ∙ either (fit [] xs) Error))
+        | no h ↦ absurd (other (is ∙ ap (λ f. command_with f xs) (get_or-eq_default forms (form_at 24) {n = i} (omega arith)) ∙ either (fit [] xs) Error))
       ]
 
 -- no command but a form's, with its numbers within their widths

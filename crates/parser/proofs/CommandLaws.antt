@@ -1,6 +1,7 @@
 -- Laws of a line as a command: its numbers one by one, and the line from its first byte on. Assumes nothing.
-use Rattle.kit.specs.Names.{◌≡◌, refl, ap, sym, ◌∙◌, fun_ext, Bool, true, false, cond, List, [], ◌∷◌, ◌++◌, append-nil, map, ℕ, zero, suc, ◌+◌, ◌*◌, ◌/◌, ◌%◌, ◌≤◌, ◌<◌, length, get_or, set, take}
-use Rattle.kit.specs.Names.{drop, replicate, drop_of_length-le, take-append-drop, List·getD-map, eqb, leb, drop-cons, drop-drop, get_or-drop, get_or-set_other, get_or-set_same, get_or-take, arith, dec_lt}
+use Rattle.std.specs.Prelude.{◌≡◌, ◌∷◌, ◌++◌, ◌+◌, ◌*◌, ◌/◌, ◌%◌, ◌≤◌, ◌<◌}
+use Rattle.kit.specs.Names.{refl, ap, sym, ◌∙◌, fun_ext, Bool, true, false, cond, List, [], append-nil, map, ℕ, zero, suc, length, get_or, set, take}
+use Rattle.kit.specs.Names.{drop, replicate, drop_of_length-le, take-append-drop, get_or-map, eqb, leb, drop-cons, drop-drop, get_or-drop, get_or-set_other, get_or-set_same, get_or-take, arith, dec_lt}
 use Rattle.kit.specs.Names.{ℕ_discrete, add-one, add-mul-div_left, add-mul-mod_self_left, mod-eq_of_lt, eq-eqb, leb-true, ne_eqb}
 use Rattle.rules.specs.Rules.{WORD}
 use Rattle.words.proofs.LineLaws.{no_words}
@@ -43,13 +44,13 @@ one_past (x ∷ l) (suc i) = one_past l i
 -- the code's table is that of the forms, with a place past its end
 pub code_at : (i : ℕ) → get_or (map (λ (f : Form). code_of f.widths) forms ++ (0 ∷ [])) i 0 ≡ code_of (form_at i).widths
 unfolding forms
-code_at i = one_past (map (λ (f : Form). code_of f.widths) forms) i ∙ List·getD-map (λ (f : Form). code_of f.widths) forms i (form_at 24)
+code_at i = one_past (map (λ (f : Form). code_of f.widths) forms) i ∙ get_or-map (λ (f : Form). code_of f.widths) forms i (form_at 24)
 
 pub at_most_seven : (i : ℕ) → length (form_at i).widths ≤ 7
 unfolding forms
 at_most_seven i =
     leb-true (length (form_at i).widths) 7
-    (sym (List·getD-map (λ (f : Form). leb (length f.widths) 7) forms i (form_at 24)) ∙ alike true 24 i)
+    (sym (get_or-map (λ (f : Form). leb (length f.widths) 7) forms i (form_at 24)) ∙ alike true 24 i)
 
 -- ---- the numbers of a line, one by one
 
@@ -116,6 +117,9 @@ module _ (i : ℕ) {xs rest : List (List ℕ)} {code count : ℕ} {s n : List �
           | yes h ↦ h
           | no h ↦ absurd (some (r.left ∙ ap code_of (drop_of_length-le ws {i = count} (omega arith))))
         ]
+
+    pub below_seven : count < 7
+    below_seven = omega (arith, inside, at_most_seven i)
 
     abbrev width : Width
     width = get_or ws count short

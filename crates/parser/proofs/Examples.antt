@@ -1,5 +1,6 @@
 -- Lines of CALLS.md, read. Assumes nothing.
-use Rattle.kit.specs.Names.{◌≡◌, refl, [], ◌∷◌, map}
+use Rattle.std.specs.Prelude.{◌≡◌, ◌∷◌}
+use Rattle.kit.specs.Names.{refl, [], map}
 use Rattle.rules.specs.declared.call.Call.TheVariants.{New, Join}
 use Rattle.words.specs.Bytes.{bytes, same_bytes}
 use Rattle.parser.specs.Command.{command_of, fit}

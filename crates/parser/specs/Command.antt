@@ -1,5 +1,6 @@
 -- Which line is which command: CALLS.md, sentence by sentence and in its order.
-use Rattle.kit.specs.Names.{Bool, true, false, cond, ◌&&◌, List, [], ◌∷◌, ℕ, get_or, eqb}
+use Rattle.std.specs.Prelude.{◌&&◌, ◌∷◌}
+use Rattle.kit.specs.Names.{Bool, true, false, cond, List, [], ℕ, get_or, eqb}
 use Rattle.words.specs.Line.{place_in, words}
 use Rattle.words.specs.Numeral.{decimal, is_numeral}
 use Rattle.commands.specs.Forms.{Form, form_at, limit, names, Width, few, long, short}

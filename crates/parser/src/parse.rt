@@ -1,6 +1,6 @@
 // A line as a command: its name has a place in the table of forms, and that place says how wide the numbers may be and
 // what they make.
-ghost use Rattle.kit.specs.Names.{◌≡◌, ◌≤◌, length, drop};
+ghost use Rattle.std.specs.Prelude.{◌≡◌, ◌≤◌, length, drop};
 ghost use Rattle.parser.specs.Command.{command_of, command_with, limit_of};
 ghost use Rattle.commands.specs.Forms.{form_at, names};
 ghost use Rattle.words.specs.Line.{place_in, words};

@@ -1,5 +1,6 @@
 -- What is printed, as CALLS.md has it.
-use Rattle.kit.specs.Names.{List, [], ◌∷◌, ◌++◌, ℕ}
+use Rattle.std.specs.Prelude.{◌∷◌, ◌++◌}
+use Rattle.kit.specs.Names.{List, [], ℕ}
 use Rattle.rules.specs.Rules.{answer_numbers, Answer, Mark, State}
 use Rattle.words.specs.Bytes.{bytes}
 use Rattle.digits.specs.Printed.{listed, spell}

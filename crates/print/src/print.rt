@@ -1,6 +1,6 @@
 // Rows, entries, marks and states, printed from place `at` of a buffer on. Each function answers the place after
 // what it wrote. The caller leaves room: none of them is longer than `ROOM`.
-ghost use Rattle.kit.specs.Names.{◌+◌, ◌≤◌, length};
+ghost use Rattle.std.specs.Prelude.{◌+◌, ◌≤◌, length};
 ghost use Rattle.words.specs.Bytes.{bytes as text};
 ghost use Rattle.digits.specs.Printed.{Printed, Wrote};
 ghost use Rattle.print.specs.Texts.{cell_text, row_text, kind_text, mark_text, state_text};
@@ -12,7 +12,7 @@ use rules::table::{Mark, State};
 pub const ROOM: usize = 256;
 
 // A lent number, or that there is none at this place.
-#[derive(Drop)]
+#[derive(Clone, Copy)]
 pub enum Cell {
     Missing,
     Number(u64),

@@ -1,5 +1,5 @@
 -- Lines of CALLS.md, printed. Assumes nothing.
-use mathlib.Core.Path.{◌≡◌, refl}
+use Rattle.std.proofs.Common.{◌≡◌, refl}
 use Rattle.rules.specs.Rules.{found, refusal, NO-KEY}
 use Rattle.words.specs.Bytes.{bytes}
 use Rattle.print.specs.Texts.{answer_text, error_text}

@@ -1,5 +1,5 @@
 // Answers and errors, printed from place `at` of a buffer on. Each function answers the place after what it wrote.
-ghost use Rattle.kit.specs.Names.{◌+◌, ◌≤◌, length};
+ghost use Rattle.std.specs.Prelude.{◌+◌, ◌≤◌, length};
 ghost use Rattle.digits.specs.Printed.{Printed, Wrote};
 ghost use Rattle.print.specs.Texts.{answer_text, error_text};
 

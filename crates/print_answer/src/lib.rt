@@ -1,2 +1,4 @@
 // An answer, or that a line is none, printed.
+#![tactic(auto)]
+
 pub mod answer;

@@ -1,5 +1,6 @@
 -- Laws of the replies' texts. Assumes nothing.
-use Rattle.kit.specs.Names.{◌≡◌, refl, [], ◌∷◌, ℕ, ◌≤◌, ◌<◌, lt-ltb, le-ltb}
+use Rattle.std.specs.Prelude.{◌≡◌, ◌∷◌, ◌≤◌, ◌<◌}
+use Rattle.kit.specs.Names.{refl, [], ℕ, lt-ltb, le-ltb}
 use denote.Enum.Declared.{tag_of}
 use types.Run.{OneOf, miss}
 use Rattle.rules.specs.contracts.call.Call.{the_type}
@@ -11,25 +12,30 @@ use Rattle.replies.specs.Replies.{FEED, onward, look_pieces}
 
 -- ---- replies
 
--- an answer that no entries follow
+-- an answer that no entries follow: that of any call but `actions`
+pub others_end : (l : Log) (call : Call) (a : Answer) → ((token : ℕ) → call ≡ Actions token → ⊥) → since_pieces l 0 0 ≡ onward l call a
+unfolding onward each
+others_end l (New owner amount) a h = refl
+others_end l Len a h = refl
+others_end l (Find key) a h = refl
+others_end l (Unioned x y) a h = refl
+others_end l (Join x y) a h = refl
+others_end l (Post key owner amount) a h = refl
+others_end l (Probe key) a h = refl
+others_end l (ProbeKey key) a h = refl
+others_end l (TryProbe key) a h = refl
+others_end l Snapshot a h = refl
+others_end l (Rollback token) a h = refl
+others_end l (Commit token) a h = refl
+others_end l (Keys token) a h = refl
+others_end l (Changes token) a h = refl
+others_end l (Actions token) a h = absurd (h token refl)
+
+-- the same of the calls' numbers
 pub no_entries : (l : Log) (call : Call) (a : Answer)
     → OneOf (0 ∷ 1 ∷ 2 ∷ 3 ∷ 4 ∷ 5 ∷ 6 ∷ 7 ∷ 8 ∷ 9 ∷ 10 ∷ 11 ∷ 12 ∷ 14 ∷ []) (tag_of the_type call) → since_pieces l 0 0 ≡ onward l call a
-unfolding onward each
-no_entries l (New owner amount) a h = refl
-no_entries l Len a h = refl
-no_entries l (Find key) a h = refl
-no_entries l (Unioned x y) a h = refl
-no_entries l (Join x y) a h = refl
-no_entries l (Post key owner amount) a h = refl
-no_entries l (Probe key) a h = refl
-no_entries l (ProbeKey key) a h = refl
-no_entries l (TryProbe key) a h = refl
-no_entries l Snapshot a h = refl
-no_entries l (Rollback token) a h = refl
-no_entries l (Commit token) a h = refl
-no_entries l (Keys token) a h = refl
-no_entries l (Changes token) a h = refl
-no_entries l (Actions token) a h = absurd (miss (0 ∷ 1 ∷ 2 ∷ 3 ∷ 4 ∷ 5 ∷ 6 ∷ 7 ∷ 8 ∷ 9 ∷ 10 ∷ 11 ∷ 12 ∷ 14 ∷ []) 13 tt h)
+no_entries l call a h =
+    others_end l call a (λ token e. miss (0 ∷ 1 ∷ 2 ∷ 3 ∷ 4 ∷ 5 ∷ 6 ∷ 7 ∷ 8 ∷ 9 ∷ 10 ∷ 11 ∷ 12 ∷ 14 ∷ []) 13 tt (rw e at h))
 
 pub entries_follow : (l : Log) (call : Call) (a : Answer) (token : ℕ) → call ≡ Actions token → since_pieces l a.from a.to ≡ onward l call a
 unfolding onward

@@ -1,5 +1,6 @@
 -- The lines of the several replies, piece by piece: CALLS.md, in its order.
-use Rattle.kit.specs.Names.{cond, List, [], ◌∷◌, ◌++◌, ℕ, min, ltb}
+use Rattle.std.specs.Prelude.{◌∷◌, ◌++◌}
+use Rattle.kit.specs.Names.{cond, List, [], ℕ, min, ltb}
 use Rattle.rules.specs.Rules.{Answer, Call, Head, State, Rows, Log, Table, head, MAX-OPEN, Sizes}
 use Rattle.rules.specs.declared.call.Call.TheVariants.{New, Len, Find, Unioned, Join, Post, Probe, ProbeKey, TryProbe, Snapshot, Rollback, Commit, Keys, Actions, Changes}
 use Rattle.words.specs.Bytes.{bytes}

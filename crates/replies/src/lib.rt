@@ -1,2 +1,4 @@
 // The lines of the several replies, printed over what is lent.
-pub mod parts;
+#![tactic(auto)]
+
+pub mod written;

@@ -1,5 +1,6 @@
 -- Replies as CALLS.md has them, on one table. Assumes nothing.
-use Rattle.kit.specs.Names.{◌≡◌, refl, List, [], ◌∷◌, ◌++◌, ℕ, replicate}
+use Rattle.std.specs.Prelude.{◌≡◌, ◌∷◌, ◌++◌}
+use Rattle.kit.specs.Names.{refl, List, [], ℕ, replicate}
 use Rattle.rules.specs.Rules.{range, Table, mark}
 use Rattle.rules.specs.declared.call.Call.TheVariants.{Actions}
 use Rattle.words.specs.Bytes.{bytes}

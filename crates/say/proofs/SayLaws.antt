@@ -1,5 +1,6 @@
 -- Laws of what a reply prints. Assumes nothing.
-use Rattle.kit.specs.Names.{◌≡◌, ap, List, ℕ}
+use Rattle.std.specs.Prelude.{◌≡◌}
+use Rattle.kit.specs.Names.{ap, List, ℕ}
 use Rattle.rules.specs.Rules.{Head, Table, Sizes}
 use Rattle.arrays.specs.declared.reply.Reply.{Reply}
 use Rattle.show.specs.Pieces.{Said}

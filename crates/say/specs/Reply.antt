@@ -1,5 +1,6 @@
 -- The line that each reply prints.
-use Rattle.kit.specs.Names.{[], ◌∷◌, ℕ}
+use Rattle.std.specs.Prelude.{◌∷◌}
+use Rattle.kit.specs.Names.{[], ℕ}
 use Rattle.rules.specs.Rules.{Head, Table}
 use Rattle.words.specs.Bytes.{bytes}
 use Rattle.print.specs.Texts.{error_text}

@@ -1,2 +1,4 @@
 // A reply printed: which of the lines it is, and over how much of the memory.
+#![tactic(auto)]
+
 pub mod say;

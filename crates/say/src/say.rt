@@ -1,4 +1,4 @@
-ghost use Rattle.kit.specs.Names.{◌≤◌, length};
+ghost use Rattle.std.specs.Prelude.{◌≤◌, length};
 ghost use Rattle.rules.specs.Rules.{table_lent};
 ghost use Rattle.show.specs.Pieces.{Said};
 ghost use Rattle.say.specs.Reply.{reply_pieces, said_pieces};
@@ -7,7 +7,7 @@ use arrays::lengths::at_most;
 use arrays::reply::Reply;
 use commands::command::Lengths;
 use extents::head::{all_there_is, in_use};
-use replies::parts::{answered, error, row, shown};
+use replies::written::{answered, error, row, shown};
 use rules::call::Answer;
 use rules::table::{Head, State};
 use show::buffer::word;
@@ -27,8 +27,8 @@ pub fn say<'a>(
     line: u64,
 ) -> usize
     requires { 256 ≤ length out.old }
-    ensures* { let t = table_lent parents crowns amounts log in
-        λ r. ⌜ Said out.old out.new at (said_pieces lengths (t.entry state) reply line) r ⌝ }
+    ensures { let t = table_lent parents.now crowns.now amounts.now log.now in
+        Said out.old out.new at (said_pieces lengths (t state) reply line) result }
 {
     let a = at_most(lengths.parents, parents.len());
     let b = at_most(lengths.crowns, crowns.len());
@@ -66,8 +66,8 @@ fn put_reply<'a>(
     line: u64,
 ) -> usize
     requires { 256 ≤ length out.old }
-    ensures* { let t = table_lent parents crowns amounts log in
-        λ r. ⌜ Said out.old out.new at (reply_pieces (t.entry state) all reply line) r ⌝ }
+    ensures { let t = table_lent parents.now crowns.now amounts.now log.now in
+        Said out.old out.new at (reply_pieces (t state) all reply line) result }
 {
     match reply {
         Reply::Silent => at,

@@ -1,5 +1,6 @@
 -- Laws of lent numbers and their texts. Assumes nothing.
-use Rattle.kit.specs.Names.{◌≡◌, List, [], ◌∷◌, ℕ, ◌+◌, ◌≤◌, ◌<◌, length, get_or, lt-ltb, le-ltb}
+use Rattle.std.specs.Prelude.{◌≡◌, ◌∷◌, ◌+◌, ◌≤◌, ◌<◌}
+use Rattle.kit.specs.Names.{List, [], ℕ, length, get_or, lt-ltb, le-ltb}
 use Rattle.rules.specs.Rules.{amount_of}
 use Rattle.print.specs.Texts.{row_text, kind_text}
 use Rattle.print.specs.declared.print.Cell.{Cell}

@@ -1,5 +1,6 @@
 -- Laws of pieces that are printed. Assumes nothing.
-use Rattle.kit.specs.Names.{◌≡◌, refl, ap, sym, ◌∙◌, List, [], ◌∷◌, ◌++◌, ℕ, ◌+◌, ◌≤◌, length, paste, add-one}
+use Rattle.std.specs.Prelude.{◌≡◌, ◌∷◌, ◌++◌, ◌+◌, ◌≤◌}
+use Rattle.kit.specs.Names.{refl, ap, sym, ◌∙◌, List, [], ℕ, length, paste, add-one}
 use Rattle.digits.specs.Printed.{Printed}
 use Rattle.show.specs.Pieces.{Page, placed, printing, Said}
 use Rattle.show.specs.Shown.{Pieces, each}

@@ -1,5 +1,6 @@
 -- What is printed into the program's buffer: pieces, one after the other.
-use Rattle.kit.specs.Names.{◌≡◌, cond, List, [], ◌∷◌, ℕ, ◌+◌, ◌-◌, length, ltb, paste}
+use Rattle.std.specs.Prelude.{◌≡◌, ◌∷◌, ◌+◌, ◌-◌}
+use Rattle.kit.specs.Names.{cond, List, [], ℕ, length, ltb, paste}
 
 -- No piece is longer.
 abbrev pub ROOM : ℕ

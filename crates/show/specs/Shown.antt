@@ -1,5 +1,6 @@
 -- Rows, entries and marks, piece by piece: CALLS.md, in its order.
-use Rattle.kit.specs.Names.{cond, List, [], ◌∷◌, ◌++◌, ℕ, zero, suc, ◌+◌, ◌-◌, ◌*◌, length, get_or, ltb}
+use Rattle.std.specs.Prelude.{◌∷◌, ◌++◌, ◌+◌, ◌-◌, ◌*◌}
+use Rattle.kit.specs.Names.{cond, List, [], ℕ, zero, suc, length, get_or, ltb}
 use Rattle.rules.specs.Rules.{State, Rows, Log, mark_at, number_of, amount_of, CROWN, ENTRY, viewed}
 use Rattle.parts.specs.declared.entries.Numbers.{Numbers}
 use Rattle.extract.specs.Numbers.{lent_at}

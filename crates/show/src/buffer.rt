@@ -1,4 +1,4 @@
-ghost use Rattle.kit.specs.Names.{◌≡◌, [], ◌∷◌, ◌+◌, ◌≤◌, length};
+ghost use Rattle.std.specs.Prelude.{◌≡◌, [], ◌∷◌, ◌+◌, ◌≤◌, length};
 ghost use Rattle.show.specs.Pieces.{placed, Said};
 
 use digits::put::put_bytes;

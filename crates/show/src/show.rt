@@ -1,5 +1,5 @@
-ghost use Rattle.kit.specs.Names.{◌≡◌, [], ◌∷◌, ◌+◌, ◌≤◌, ◌<◌, min, length};
-ghost use Rattle.rules.specs.Rules.{rows_lent, log_lent};
+ghost use Rattle.std.specs.Prelude.{◌≡◌, [], ◌∷◌, ◌+◌, ◌≤◌, ◌<◌, min, length};
+ghost use Rattle.rules.specs.Rules.{rows_lent};
 ghost use Rattle.print.specs.Texts.{kind_text, row_text};
 ghost use Rattle.show.specs.Pieces.{Said};
 ghost use Rattle.show.specs.Shown.{each, cell_at, both, row_piece, row_pieces, entry_pieces, mark_pieces};
@@ -39,7 +39,7 @@ pub fn cell64(part: &[u64], at: usize) -> Cell
 
 // The amount whose low word the log has at a place, and its high word after it, if both are lent.
 pub fn amount_cell(log: &[u32], at: usize) -> Cell
-    ensures* { let l = log_lent log in λ r. ⌜ r ≡ both (cell_at l.entry at) (cell_at l.entry (at + 1)) ⌝ }
+    ensures { result ≡ both (cell_at log.now at) (cell_at log.now (at + 1)) }
 {
     if at >= log.len() {
         return Cell::Missing;
@@ -61,7 +61,8 @@ pub fn row_cells(
     i: u32,
 ) -> usize
     requires { 256 ≤ length out.old }
-    ensures* { let rs = rows_lent parents crowns amounts in λ r. ⌜ Said out.old out.new at (row_piece rs.entry i ∷ []) r ⌝ }
+    ensures { let rs = rows_lent parents.now crowns.now amounts.now in
+        Said out.old out.new at (row_piece rs i ∷ []) result }
 {
     let place = i as usize;
     let base = place * CROWN;
@@ -83,7 +84,8 @@ pub fn rows(
     n: u32,
 ) -> usize
     requires { 256 ≤ length out.old }
-    ensures* { let rs = rows_lent parents crowns amounts in λ r. ⌜ Said out.old out.new at (each n (row_pieces rs.entry)) r ⌝ }
+    ensures { let rs = rows_lent parents.now crowns.now amounts.now in
+        Said out.old out.new at (each n (row_pieces rs)) result }
 {
     let mut end = at;
     let mut i = 0;
@@ -118,7 +120,7 @@ pub fn put_entry(
 // Entry `i` of the log.
 fn entry_cells(out: &mut [u8], at: usize, log: &[u32], i: u32) -> usize
     requires { 256 ≤ length out.old }
-    ensures* { let l = log_lent log in λ r. ⌜ Said out.old out.new at (entry_pieces l.entry i) r ⌝ }
+    ensures { Said out.old out.new at (entry_pieces log.now i) result }
 {
     let base = i as usize * ENTRY;
     let kind = cell32(log, base);
@@ -133,7 +135,7 @@ fn entry_cells(out: &mut [u8], at: usize, log: &[u32], i: u32) -> usize
 // The first `n` entries, a bar before each.
 pub fn entries(out: &mut [u8], at: usize, log: &[u32], n: u32) -> usize
     requires { 256 ≤ length out.old }
-    ensures* { let l = log_lent log in λ r. ⌜ Said out.old out.new at (each n (entry_pieces l.entry)) r ⌝ }
+    ensures { Said out.old out.new at (each n (entry_pieces log.now)) result }
 {
     let mut end = at;
     let mut i = 0;

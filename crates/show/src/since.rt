@@ -1,6 +1,5 @@
 // The entries since a snapshot, printed as they are lent: each is read through the view of the log.
-ghost use Rattle.kit.specs.Names.{◌≤◌, length};
-ghost use Rattle.rules.specs.Rules.{log_lent};
+ghost use Rattle.std.specs.Prelude.{◌≤◌, length};
 ghost use Rattle.show.specs.Pieces.{Said};
 ghost use Rattle.show.specs.Shown.{numbers_pieces, since_pieces};
 
@@ -32,7 +31,7 @@ fn entry(out: &mut [u8], at: usize, numbers: Numbers) -> usize
 // The entries of the log from one to another, oldest first.
 pub fn entries_since<'a>(out: &mut [u8], at: usize, log: &'a [u32], from: u32, to: u32) -> usize
     requires { 256 ≤ length out.old }
-    ensures* { let l = log_lent log in λ r. ⌜ Said out.old out.new at (since_pieces l.entry from to) r ⌝ }
+    ensures { Said out.old out.new at (since_pieces log.now from to) result }
 {
     let mut end = at;
     let mut i = from;

@@ -1,5 +1,6 @@
 -- Laws of a line's words. Assumes nothing.
-use Rattle.kit.specs.Names.{◌≡◌, refl, sym, ◌∙◌, Bool, true, false, cond, List, [], ◌∷◌, ◌++◌, ℕ, suc, ◌+◌, ◌-◌, ◌≤◌, ◌<◌, length, get_or, take, drop, length-drop, drop_of_length-le, eqb, drop-cons}
+use Rattle.std.specs.Prelude.{◌≡◌, ◌∷◌, ◌++◌, ◌+◌, ◌-◌, ◌≤◌, ◌<◌}
+use Rattle.kit.specs.Names.{refl, sym, ◌∙◌, Bool, true, false, cond, List, [], ℕ, suc, length, get_or, take, drop, length-drop, drop_of_length-le, eqb, drop-cons}
 use Rattle.kit.specs.Names.{take-suc, get_or-drop, length-take-le, arith, dec_lt, add-one, eq-eqb, eqb-true, ne_eqb}
 use Rattle.words.specs.Line.{BLANK, ended, place_in, Spans, words_after, words}
 use Rattle.words.specs.Bytes.{same_bytes}

@@ -1,5 +1,6 @@
 -- Laws of a word read as a number. Assumes nothing.
-use Rattle.kit.specs.Names.{◌≡◌, refl, Bool, true, false, cond, ◌&&◌, List, [], ◌∷◌, ℕ, suc, ◌+◌, ◌*◌, ◌-◌, ◌/◌, ◌≤◌, ◌<◌, length, get_or, drop, leb, ltb, drop-cons, drop-length, arith, add-one}
+use Rattle.std.specs.Prelude.{◌≡◌, ◌&&◌, ◌∷◌, ◌+◌, ◌*◌, ◌-◌, ◌/◌, ◌≤◌, ◌<◌}
+use Rattle.kit.specs.Names.{refl, Bool, true, false, cond, List, [], ℕ, suc, length, get_or, drop, leb, ltb, drop-cons, drop-length, arith, add-one}
 use Rattle.kit.specs.Names.{le-div_iff_mul-le, div-lt_iff_lt-mul, le-leb, leb-true, lt-leb, lt-ltb}
 use Rattle.words.specs.declared.number.Number.{Number}
 use Rattle.words.specs.declared.number.Number.TheVariants.{Not, Value}

@@ -1,5 +1,6 @@
 -- Text as bytes.
-use Rattle.kit.specs.Names.{Bool, true, false, ◌&&◌, List, [], ◌∷◌, ℕ, eqb}
+use Rattle.std.specs.Prelude.{◌&&◌, ◌∷◌}
+use Rattle.kit.specs.Names.{Bool, true, false, List, [], ℕ, eqb}
 use Prim.Native.Char.{code}
 use Prim.Native.String as text
 use Prim.Native.String.{String}

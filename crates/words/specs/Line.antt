@@ -1,5 +1,6 @@
 -- A line's words. CALLS.md: "words separated by blanks".
-use Rattle.kit.specs.Names.{◌≡◌, cond, List, [], ◌∷◌, ◌++◌, ℕ, suc, ◌-◌, ◌≤◌, ◌<◌, length, get_or, take, drop, eqb}
+use Rattle.std.specs.Prelude.{◌≡◌, ◌∷◌, ◌++◌, ◌-◌, ◌≤◌, ◌<◌}
+use Rattle.kit.specs.Names.{cond, List, [], ℕ, suc, length, get_or, take, drop, eqb}
 use Rattle.words.specs.Bytes.{same_bytes}
 
 abbrev pub BLANK : ℕ

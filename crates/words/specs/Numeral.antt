@@ -1,5 +1,6 @@
 -- A word of digits read as a number, as CALLS.md has it: decimal, digits alone, below its width.
-use Rattle.kit.specs.Names.{Bool, true, cond, ◌&&◌, List, [], ◌∷◌, ℕ, ◌+◌, ◌*◌, ◌-◌, length, leb, ltb}
+use Rattle.std.specs.Prelude.{◌&&◌, ◌∷◌, ◌+◌, ◌*◌, ◌-◌}
+use Rattle.kit.specs.Names.{Bool, true, cond, List, [], ℕ, length, leb, ltb}
 use Rattle.words.specs.declared.number.Number.{Number}
 use Rattle.words.specs.declared.number.Number.TheVariants.{Not, Value}
 

@@ -1,5 +1,5 @@
 // The words of a line, by their places.
-ghost use Rattle.kit.specs.Names.{◌≡◌, ◌≤◌, ◌<◌, length};
+ghost use Rattle.std.specs.Prelude.{◌≡◌, ◌≤◌, ◌<◌, length};
 ghost use Rattle.words.specs.Line.{place_in, Skipped, Spans, words};
 
 use check::same;

@@ -1,0 +1,10 @@
+-- A bar, the kind and the key make one text. Assumes nothing.
+use Rattle.kit.specs.Names.{append-nil}
+use Rattle.digits.proofs.PrintLaws.{saying, then}
+use Rattle.print.specs.Texts.{cells}
+use Rattle.print.proofs.print.put_kind.Goals as goal
+
+pub returns-clause-printed : goal.returns-clause-printed
+unfolding cells
+returns-clause-printed c =
+    saying (simp append-nil) (then c.put_bar-first.ensures.printed (then c.put_cell-second.ensures.printed c.put_cell.ensures.printed))

@@ -1,0 +1,6 @@
+-- The first word, the numbers and the last word make one text. Assumes nothing.
+use Rattle.digits.proofs.PrintLaws.{then}
+use Rattle.print.proofs.print.put_state.Goals as goal
+
+pub returns-clause-printed : goal.returns-clause-printed
+returns-clause-printed c = then (then c.put_bytes-first.ensures c.put_list-marks.ensures.printed) c.put_bytes.ensures
