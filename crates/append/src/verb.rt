@@ -1,65 +1,62 @@
 // The verb, over a buffer that is lent for the journal.
-use files::read::{Found, read_front};
+use anyhow::{Context, Result, bail};
+use files::name::name_of;
+use files::read::read_front;
 use journal_append::bytes::append_bytes;
 use journal_file::read::read_journal;
-use verb_words::answer::{complain, gave_up};
+use std::io::ErrorKind;
+use std::process::ExitCode;
+use std::rt::Files;
+use verb_words::given::word_at;
 use verb_words::verbs::append_words;
 
 // A verb that has its words.
-pub fn append_verb(buffer: &mut [u8]) {
-    let words = append_words();
-    if !words.good {
-        complain(b"usage", b"./meter append JOURNAL ENTRIES [room N]");
-        gave_up();
-        return;
+pub fn append_verb(
+    rt: &(impl Files + Print),
+    words: &[String],
+    buffer: &mut [u8],
+) -> Result<ExitCode> {
+    let asked = append_words(words);
+    if !asked.good {
+        bail!("usage: ./meter append JOURNAL ENTRIES [room N]");
     }
-    let mut journal = io::buffer();
-    let a = os::arg(1, &mut journal);
-    if os::errno() != 0 {
-        os::fail(b"JOURNAL");
-        gave_up();
-        return;
-    }
-    let mut entries = io::buffer();
-    let b = os::arg(2, &mut entries);
-    if os::errno() != 0 {
-        os::fail(b"ENTRIES");
-        gave_up();
-        return;
-    }
-    append_file(&journal[0..a], &entries[0..b], words.room as usize, buffer);
+    let journal = word_at(words, 1);
+    let entries = word_at(words, 2);
+    append_file(
+        rt,
+        journal.as_bytes(),
+        entries.as_bytes(),
+        asked.room as usize,
+        buffer,
+    )
 }
 
 // ENTRIES read: a byte more than a segment's entries have, since a longer file is refused as that is.
-fn append_file(journal: &[u8], entries: &[u8], room: usize, buffer: &mut [u8]) {
+fn append_file(
+    rt: &(impl Files + Print),
+    journal: &[u8],
+    entries: &[u8],
+    room: usize,
+    buffer: &mut [u8],
+) -> Result<ExitCode> {
     let mut bytes = [0u8; 49153];
-    let read = read_front(entries, &mut bytes);
-    let length = read.length;
-    let found = read.found;
-    match found {
-        Found::Whole => append_to(journal, &bytes[0..length], room, buffer),
-        _ => {
-            os::fail(entries);
-            gave_up();
-        }
-    }
+    let length = read_front(rt, entries, &mut bytes).context(name_of(entries)?)?;
+    append_to(rt, journal, &bytes[0..length], room, buffer)
 }
 
 // JOURNAL read. A missing one is an empty one.
-fn append_to(journal: &[u8], entries: &[u8], room: usize, buffer: &mut [u8]) {
-    let read = read_journal(journal, buffer);
-    let length = read.length;
-    let found = read.found;
-    match found {
-        Found::Whole => append_bytes(journal, true, length, entries, room, buffer),
-        Found::Missing => append_bytes(journal, false, 0, entries, room, buffer),
-        Found::Unreadable => {
-            os::fail(journal);
-            gave_up();
+fn append_to(
+    rt: &(impl Files + Print),
+    journal: &[u8],
+    entries: &[u8],
+    room: usize,
+    buffer: &mut [u8],
+) -> Result<ExitCode> {
+    match read_journal(rt, journal, buffer) {
+        Ok(length) => append_bytes(rt, journal, true, length, entries, room, buffer),
+        Err(why) if why.kind() == ErrorKind::NotFound => {
+            append_bytes(rt, journal, false, 0, entries, room, buffer)
         }
-        Found::TooLong => {
-            complain(journal, b"larger than the program takes");
-            gave_up();
-        }
+        Err(why) => Err(why).context(name_of(journal)?),
     }
 }

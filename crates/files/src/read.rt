@@ -1,142 +1,62 @@
-ghost use Rattle.kit.specs.Names.{◌+◌, ◌≤◌, length};
-ghost use Rattle.io.specs.Counts.{IsPrefixLen};
+ghost use Rattle.std.specs.Prelude.{◌≡◌, ◌≤◌, ◌+◌, length, IfOk, OnErr};
 
-// What came of reading a file. Where it is `Missing` or `Unreadable`, errno says why.
-#[derive(Drop)]
-pub enum Found {
-    Missing,
-    Unreadable,
-    TooLong,
-    Whole,
-}
-
-// With how many bytes were read, 0 unless it is `Whole`.
-#[derive(Drop)]
-pub struct FileRead {
-    pub found: Found,
-    pub length: usize,
-}
-
-// What one read or several answered.
-#[derive(Drop)]
-struct Got {
-    failed: bool,
-    count: usize,
-}
-
-fn nothing(found: Found) -> FileRead
-    ensures { result.length ≤ 0 }
-{
-    FileRead { found, length: 0 }
-}
+use crate::name::name_of;
+use std::io::{Error, ErrorKind, Read};
+use std::rt::Files;
+use std::{fs, io};
 
 // One read, into the buffer from a place on.
-fn read_some(fd: i32, buffer: &mut [u8], from: usize) -> Got
+fn read_some<F: Read>(file: &mut F, buffer: &mut [u8], from: usize) -> io::Result<usize>
     requires { from ≤ length buffer.old }
-    ensures { from + result.count ≤ length buffer.new }
+    ensures ok { IfOk result (λ count. from + count ≤ length buffer.new) }
+    ensures err { OnErr result (length buffer.new ≡ length buffer.old) }
 {
     let part = &mut buffer[from..];
-    let got = libc::read(fd, part);
-    let count = io::count(got, part);
-    Got {
-        failed: got < 0,
-        count,
-    }
+    file.read(part)
 }
 
-// Reads until the buffer is full, the file ends or a read fails. Unlike `io::read_full` it tells the last two apart: a journal that is
+// Reads until the buffer is full or the file ends. A file that can't be read on is an error, and not a shorter file: a journal that is
 // read in part may be a valid one.
-fn fill(fd: i32, buffer: &mut [u8]) -> Got
-    ensures { result.count ≤ length buffer.new }
+fn fill<F: Read>(file: &mut F, buffer: &mut [u8]) -> io::Result<usize>
+    ensures ok { IfOk result (λ count. count ≤ length buffer.new) }
+    ensures err { OnErr result (length buffer.new ≡ length buffer.old) }
 {
     let mut done = 0;
     while done < buffer.len() {
-        let got = read_some(fd, buffer, done);
-        if got.failed {
-            return got;
+        let count = read_some(file, buffer, done)?;
+        if count == 0 {
+            break;
         }
-        if got.count == 0 {
-            return Got {
-                failed: false,
-                count: done,
-            };
-        }
-        done += got.count;
+        done += count;
     }
-    Got {
-        failed: false,
-        count: done,
-    }
+    Ok(done)
 }
 
-// What is known of a file that is read as far as the buffer goes.
-fn read_front_of(fd: i32, buffer: &mut [u8]) -> FileRead
-    ensures { result.length ≤ length buffer.new }
+// The file's first bytes, as many as the buffer has room for, or all where it has fewer. Answers how many.
+pub fn read_front(rt: &impl Files, path: &[u8], buffer: &mut [u8]) -> io::Result<usize>
+    ensures ok { IfOk result (λ count. count ≤ length buffer.new) }
+    ensures err { OnErr result (length buffer.new ≡ length buffer.old) }
 {
-    let got = fill(fd, buffer);
-    if got.failed {
-        return nothing(Found::Unreadable);
-    }
-    FileRead {
-        found: Found::Whole,
-        length: got.count,
-    }
+    let mut file = fs::open(rt, name_of(path)?)?;
+    fill(&mut file, buffer)
 }
 
-// The file's first bytes, as many as the buffer has room for, or all where it has fewer.
-pub fn read_front(path: &[u8], buffer: &mut [u8]) -> FileRead
-    ensures { result.length ≤ length buffer.new }
+// The whole file. One that goes on past the buffer's end is an error, `FileTooLarge`.
+pub fn read_file(rt: &impl Files, path: &[u8], buffer: &mut [u8]) -> io::Result<usize>
+    ensures ok { IfOk result (λ count. count ≤ length buffer.new) }
+    ensures err { OnErr result (length buffer.new ≡ length buffer.old) }
 {
-    let fd = os::open_read(path);
-    if fd < 0 {
-        return not_opened();
-    }
-    let read = read_front_of(fd, buffer);
-    libc::close(fd);
-    read
+    let mut file = fs::open(rt, name_of(path)?)?;
+    let count = fill(&mut file, buffer)?;
+    at_end(&mut file)?;
+    Ok(count)
 }
 
-// The whole file: `TooLong` where it goes on past the buffer's end.
-pub fn read_file(path: &[u8], buffer: &mut [u8]) -> FileRead
-    ensures { result.length ≤ length buffer.new }
-{
-    let fd = os::open_read(path);
-    if fd < 0 {
-        return not_opened();
+// That the file has ended. At a file's end one more byte can be asked for and none comes.
+fn at_end<F: Read>(file: &mut F) -> io::Result<()> {
+    let mut more = [0u8; 1];
+    if file.read(&mut more)? > 0 {
+        return Err(Error::new(ErrorKind::FileTooLarge, "larger than the program takes"));
     }
-    let read = read_front_of(fd, buffer);
-    let whole = at_end(fd, read);
-    libc::close(fd);
-    whole
-}
-
-// A file that can't be opened: that it is missing is an answer of its own.
-fn not_opened() -> FileRead
-    ensures { result.length ≤ 0 }
-{
-    if os::errno() == libc::ENOENT {
-        return nothing(Found::Missing);
-    }
-    nothing(Found::Unreadable)
-}
-
-// The same reading, where the file has ended. At a file's end one more byte can be asked for and none comes.
-fn at_end(fd: i32, read: FileRead) -> FileRead
-    ensures { result.length ≤ read.length }
-{
-    let found = read.found;
-    match found {
-        Found::Whole => {
-            let mut more = [0u8; 1];
-            let got = libc::read(fd, &mut more);
-            if got > 0 {
-                return nothing(Found::TooLong);
-            }
-            if got < 0 {
-                return nothing(Found::Unreadable);
-            }
-            read
-        }
-        _ => read,
-    }
+    Ok(())
 }

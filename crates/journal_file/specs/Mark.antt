@@ -1,5 +1,6 @@
 -- The mark beside a journal.
-use Rattle.kit.specs.Names.{cond, List, ◌&&◌, ℕ, ◌-◌, length, get_or, take, eqb, ltb}
+use Rattle.std.specs.Prelude.{◌&&◌, ◌-◌}
+use Rattle.kit.specs.Names.{cond, List, ℕ, length, get_or, take, eqb, ltb}
 use Rattle.words.specs.Numeral.{numeral}
 use Rattle.words.specs.declared.number.Number.{Number}
 use Rattle.words.specs.declared.number.Number.TheVariants.{Not, Value}

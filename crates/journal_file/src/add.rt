@@ -1,75 +1,92 @@
-// Every function that answers false has said why on standard error.
 use crate::mark::{make_mark, mark_path};
-use files::write::{failed, put_on_disk, remove, sync_directory, write_whole};
+use files::name::name_of;
+use files::write::{put_on_disk, remove, write_whole};
+use std::fs::{OpenFile, OpenOptions};
+use std::io::{Seek, SeekFrom, Write};
+use std::rt::Files;
+use std::{fs, io};
 
-// Adds a segment to a journal, after its first `old` bytes. When this answers true the segment is on disk; where it answers false the
+// Adds a segment to a journal, after its first `old` bytes. When this answers `Ok` the segment is on disk; where it answers an error the
 // journal is as it was, or the segment is there whole (where only the last word of the disk is missing).
-pub fn add_segment(path: &[u8], existed: bool, old: usize, segment: &[u8]) -> bool {
+pub fn add_segment(
+    rt: &impl Files,
+    path: &[u8],
+    existed: bool,
+    old: usize,
+    segment: &[u8],
+) -> io::Result<()> {
     if !existed {
-        return begin(path, segment);
+        return begin(rt, path, segment);
     }
-    let fd = os::open_update(path);
-    if fd < 0 {
-        return failed(path);
-    }
-    let done = extend(fd, path, old, segment);
-    libc::close(fd);
-    done
+    let mut options = OpenOptions::new();
+    options.read(true).write(true);
+    let mut file = options.open(rt, name_of(path)?)?;
+    extend(rt, &mut file, path, old, segment)
 }
 
 // Makes the journal. A mark that is left of an older one of this name, since removed, is not about this one.
-fn begin(path: &[u8], segment: &[u8]) -> bool {
+fn begin(rt: &impl Files, path: &[u8], segment: &[u8]) -> io::Result<()> {
     let mut space = [0u8; 4160];
     let end = mark_path(path, &mut space);
-    if !remove(&space[..end]) {
-        return false;
-    }
-    write_whole(path, segment)
+    remove(rt, &space[..end])?;
+    write_whole(rt, path, segment)
 }
 
 // Extends a journal: the mark, the segment, then the mark's end.
-fn extend(fd: i32, path: &[u8], old: usize, segment: &[u8]) -> bool {
+fn extend<F: Write + Seek + OpenFile>(
+    rt: &impl Files,
+    file: &mut F,
+    path: &[u8],
+    old: usize,
+    segment: &[u8],
+) -> io::Result<()> {
     let mut space = [0u8; 4160];
     let end = mark_path(path, &mut space);
-    if !make_mark(&space[..end], old) {
-        take_back(fd, &space[..end], old);
-        return false;
+    let mark = &space[..end];
+    if let Err(why) = put_marked(rt, file, mark, old, segment) {
+        let _ = take_back(rt, file, mark, old);
+        return Err(why);
     }
-    if !put_after(fd, old, segment) {
-        os::fail(path);
-        take_back(fd, &space[..end], old);
-        return false;
-    }
-    remove(&space[..end])
+    remove(rt, mark)
+}
+
+// The mark, and then the segment.
+fn put_marked<F: Write + Seek + OpenFile>(
+    rt: &impl Files,
+    file: &mut F,
+    mark: &[u8],
+    old: usize,
+    segment: &[u8],
+) -> io::Result<()> {
+    make_mark(rt, mark, old)?;
+    put_after(file, old, segment)
 }
 
 // Cuts the file to its old length: what stands after it is of a segment that was never finished.
-fn cut(fd: i32, old: usize) -> bool {
-    if old > 9223372036854775807 {
-        return false;
-    }
-    let place = old as i64;
-    if libc::ftruncate(fd, place) != 0 {
-        return false;
-    }
-    libc::lseek(fd, place, libc::SEEK_SET) == place
+fn cut<F: Seek + OpenFile>(file: &mut F, old: usize) -> io::Result<()> {
+    file.set_len(old as u64)?;
+    file.seek(SeekFrom::Start(old as u64))?;
+    Ok(())
 }
 
 // The segment after the first `old` bytes, on disk.
-fn put_after(fd: i32, old: usize, segment: &[u8]) -> bool {
-    if !cut(fd, old) {
-        return false;
-    }
-    put_on_disk(fd, segment)
+fn put_after<F: Write + Seek + OpenFile>(
+    file: &mut F,
+    old: usize,
+    segment: &[u8],
+) -> io::Result<()> {
+    cut(file, old)?;
+    put_on_disk(file, segment)
 }
 
 // After a failure: the file as it was, then no mark. Where it can't be cut the mark stays, and says the same.
-fn take_back(fd: i32, mark: &[u8], old: usize) {
-    if !cut(fd, old) {
-        return;
-    }
-    if libc::fsync(fd) != 0 {
-        return;
-    }
-    os::unlink(mark);
+fn take_back<F: Seek + OpenFile>(
+    rt: &impl Files,
+    file: &mut F,
+    mark: &[u8],
+    old: usize,
+) -> io::Result<()> {
+    cut(file, old)?;
+    file.sync_all()?;
+    fs::remove_file(rt, name_of(mark)?)
 }

@@ -3,6 +3,8 @@
 // While a segment is being added, a mark stands beside the journal: a file that holds the journal's old length. Every reader looks for it,
 // and where it is there the journal is so many bytes of the file. The mark is on disk before the journal is touched, and it goes when
 // the segment is on disk. So the cost is that of the segment, and not of the journal.
+#![tactic(auto)]
+
 pub mod add;
 pub mod mark;
 pub mod read;

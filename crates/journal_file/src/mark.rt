@@ -1,23 +1,26 @@
 // The mark beside a journal: its length in decimal digits, and a line feed.
-ghost use Rattle.kit.specs.Names.{◌≡◌};
+ghost use Rattle.std.specs.Prelude.{◌≡◌};
 ghost use Rattle.io.specs.Counts.{IsPrefixLen};
 ghost use Rattle.journal_file.specs.Mark.{length_marked};
 
 use digits::put::{put_byte, put_number};
-use files::read::{Found, read_file};
+use files::name::{is_absent, is_too_long};
+use files::read::read_file;
 use files::write::write_whole;
 use paths::path::path_with;
+use std::io;
+use std::rt::Files;
 use words::number::{Number, read};
 
-// What is found beside a journal: no mark, or one that says how long the journal is. Where it is `Unknown`, errno says why.
+// What is found beside a journal: no mark, or one that says how long the journal is.
 #[derive(Drop)]
 pub enum Pending {
     None,
-    Unknown,
     Length(usize),
 }
 
-// The mark's path. A path can have 4,096 bytes as an argument, and the suffix has 7.
+// The mark's path. A path that the system takes has fewer than 4,096 bytes, and the suffix has 7. A longer one doesn't fit, and the empty
+// path in its place is no file's.
 pub fn mark_path(path: &[u8], space: &mut [u8; 4160]) -> usize
     ensures { IsPrefixLen result space.new }
 {
@@ -42,31 +45,20 @@ pub fn read_mark(text: &[u8]) -> Pending
     }
 }
 
-// The mark of this path, if there is one.
-pub fn find_mark(path: &[u8]) -> Pending {
+// The mark of this path, if there is one. A path that is too long for a mark has none.
+pub fn find_mark(rt: &impl Files, path: &[u8]) -> io::Result<Pending> {
     let mut text = [0u8; 64];
-    let read = read_file(path, &mut text);
-    let length = read.length;
-    let found = read.found;
-    match found {
-        Found::Whole => read_mark(&text[0..length]),
-        Found::Unreadable => unless_too_long(),
-        _ => Pending::None,
+    match read_file(rt, path, &mut text) {
+        Ok(length) => Ok(read_mark(&text[0..length])),
+        Err(error) if is_absent(&error) || is_too_long(&error) => Ok(Pending::None),
+        Err(error) => Err(error),
     }
-}
-
-// A path that is too long for a mark has none.
-fn unless_too_long() -> Pending {
-    if os::errno() == libc::ENAMETOOLONG {
-        return Pending::None;
-    }
-    Pending::Unknown
 }
 
 // Makes a mark, on disk.
-pub fn make_mark(path: &[u8], length: usize) -> bool {
+pub fn make_mark(rt: &impl Files, path: &[u8], length: usize) -> io::Result<()> {
     let mut text = [0u8; 32];
     let end = put_number(&mut text, 0, length as u64);
     let whole = put_byte(&mut text, end, b'\n');
-    write_whole(path, &text[0..whole])
+    write_whole(rt, path, &text[0..whole])
 }

@@ -1,15 +1,16 @@
 -- Laws of a turn. Assumes nothing.
-use Rattle.kit.specs.Names.{◌≡◌, refl, ap, sym, ◌∙◌, true, false, cond, List, ℕ}
+use Rattle.std.specs.Prelude.{◌≡◌}
+use Rattle.kit.specs.Names.{refl, ap, sym, ◌∙◌, true, false, cond, List, ℕ}
 use Rattle.rules.specs.Rules.{State, Rows, Log, Table, table}
 use Rattle.commands.specs.declared.command.Command.{Command}
 use Rattle.arrays.specs.declared.reply.Changed.{Changed}
 use Rattle.arrays.specs.Cut.{Left, left}
 use Rattle.damage.specs.Commands.{changed}
 use Rattle.reading.specs.declared.read.Reading.{Reading}
-use Rattle.lines.specs.Lines.{line, line_command}
+use Rattle.lines.specs.Lines.{line_command}
 use Rattle.show.specs.Pieces.{Page, page, printing, Said}
 use Rattle.say.specs.Reply.{said_pieces}
-use Rattle.reading.specs.Taking.{reading, filled, Took, took, taking, next_line}
+use Rattle.reading.specs.Taking.{filled, Took, took, taking, next_line}
 use Rattle.meter.specs.Turn.{Replying, replying, answering, Turned, turned, turning}
 
 -- ---- its answer

@@ -3,7 +3,7 @@ use Rattle.kit.specs.Names.{cond, List, ℕ}
 use Rattle.rules.specs.Rules.{State, Table}
 use Rattle.damage.specs.Commands.{changed}
 use Rattle.reading.specs.declared.read.Reading.{Reading}
-use Rattle.lines.specs.Lines.{line, line_command}
+use Rattle.lines.specs.Lines.{line_command}
 use Rattle.show.specs.Pieces.{printing}
 use Rattle.say.specs.Reply.{said_pieces}
 use Rattle.reading.specs.Taking.{filled, taking, next_line}

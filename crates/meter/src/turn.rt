@@ -1,5 +1,5 @@
 // A turn of the program: a line gathered, its command carried out, its reply printed.
-ghost use Rattle.kit.specs.Names.{◌≡◌, ◌≤◌, ◌<◌, length};
+ghost use Rattle.std.specs.Prelude.{◌≡◌, ◌≤◌, ◌<◌, length};
 ghost use Rattle.rules.specs.Rules.{table_lent};
 ghost use Rattle.meter.specs.Turn.{replying, answering, turned, turning};
 
@@ -7,11 +7,13 @@ use lines::line::command_of;
 use memory::change::change;
 use reading::read::{Reading, next_line, refill, take};
 use say::say::say;
+use std::io::Read;
 
 // One turn: more input where there is none at hand, then bytes up to a line's end, and where it is reached, the line's answer.
 // What is read nobody knows before; where some is at hand, nothing is.
-pub fn turn(
+pub fn turn<R: Read>(
     reading: Reading,
+    source: &mut R,
     parents: &mut [u32],
     crowns: &mut [u32],
     amounts: &mut [u64],
@@ -21,12 +23,13 @@ pub fn turn(
     out: &mut [u8],
 ) -> Reading
     requires { 256 ≤ length out.old }
-    ensures* out_after { let t = table_lent parents crowns amounts log in
-        λ r. ⌜ turned r t.exit line.new out.new
-        ≡ turning reading t.entry line.old out.old input.new r.count ⌝ }
+    ensures out_after { let t = table_lent parents.old crowns.old amounts.old log.old in
+        let after = table_lent parents.new crowns.new amounts.new log.new in
+        turned result after line.new out.new
+        ≡ turning reading t line.old out.old input.new result.count }
     ensures input_unchanged { reading.from < reading.count → input.new ≡ input.old }
 {
-    let filled = refill(reading, input);
+    let filled = refill(reading, source, input);
     let got = take(filled, input, line);
     if !got.ended {
         return got;
@@ -45,8 +48,9 @@ fn answer(
     out: &mut [u8],
 ) -> Reading
     requires { 256 ≤ length out.old }
-    ensures* { let t = table_lent parents crowns amounts log in
-        λ r. ⌜ replying r t.exit out.new ≡ answering reading t.entry line.now out.old ⌝ }
+    ensures { let t = table_lent parents.old crowns.old amounts.old log.old in
+        let after = table_lent parents.new crowns.new amounts.new log.new in
+        replying result after out.new ≡ answering reading t line.now out.old }
 {
     let lengths = reading.lengths;
     let state = reading.state;

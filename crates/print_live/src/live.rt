@@ -13,7 +13,7 @@ pub fn print_table<'a>(
     amounts: &'a [u64],
     log: &'a [u32],
 ) {
-    let mut out = io::large_buffer();
+    let mut out = [0u8; 65536];
     let at = say(
         &mut out,
         0,

@@ -1,5 +1,6 @@
 -- Laws of a line gathered. Assumes nothing.
-use Rattle.kit.specs.Names.{◌≡◌, ap, Bool, true, false, List, ℕ, ◌+◌, ◌≤◌, ◌<◌, take, drop, lt-ltb, le-ltb, eq-eqb, ne_eqb}
+use Rattle.std.specs.Prelude.{◌≡◌, ◌+◌, ◌≤◌, ◌<◌}
+use Rattle.kit.specs.Names.{ap, Bool, true, false, List, ℕ, take, drop, lt-ltb, le-ltb, eq-eqb, ne_eqb}
 use Rattle.rules.specs.Rules.{MAX-U64}
 use Rattle.reading.specs.declared.read.Reading.{Reading}
 use Rattle.lines.specs.Lines.{Reached, line, gathering}

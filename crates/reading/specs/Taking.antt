@@ -1,5 +1,6 @@
 -- A line gathered from the input, part by part.
-use Rattle.kit.specs.Names.{Bool, true, false, cond, List, ℕ, ◌+◌, take, drop, eqb, ltb}
+use Rattle.std.specs.Prelude.{◌+◌}
+use Rattle.kit.specs.Names.{Bool, true, false, cond, List, ℕ, take, drop, eqb, ltb}
 use Rattle.rules.specs.Rules.{State, fresh, MAX-U64}
 use Rattle.commands.specs.declared.command.Lengths.{Lengths}
 use Rattle.arrays.specs.Room.{nothing}

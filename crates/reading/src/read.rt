@@ -1,4 +1,4 @@
-ghost use Rattle.kit.specs.Names.{◌≡◌, List, ℕ, ◌<◌};
+ghost use Rattle.std.specs.Prelude.{◌≡◌, List, ℕ, ◌<◌};
 ghost use Rattle.lines.specs.Lines.{line, reached};
 ghost use Rattle.reading.specs.Taking.{beginning, filled, took, taking, line_number, ends_at, next_line};
 
@@ -8,9 +8,10 @@ use commands::command::Lengths;
 use damage::damage::fresh;
 use lines::gather::{Gathered, gather};
 use rules::table::State;
+use std::io::Read;
 
 // A list of calls that is being read: what goes from line to line, the line so far, and the part of the input that is at hand.
-#[derive(Drop)]
+#[derive(Clone, Copy)]
 pub struct Reading {
     pub lengths: Lengths,
     pub state: State,
@@ -44,16 +45,15 @@ pub fn begin() -> Reading
     }
 }
 
-// More input, where none is at hand and there is any.
-pub fn refill(reading: Reading, input: &mut [u8]) -> Reading
+// More input, where none is at hand and there is any. One that can't be read has ended.
+pub fn refill<R: Read>(reading: Reading, source: &mut R, input: &mut [u8]) -> Reading
     ensures value { result ≡ filled reading result.count }
     ensures input_unchanged { reading.from < reading.count → input.new ≡ input.old }
 {
     if reading.from < reading.count {
         return reading;
     }
-    let got = libc::read(0, input);
-    let count = io::count(got, input);
+    let count = source.read(input).unwrap_or(0);
     let mut after = reading;
     after.from = 0;
     after.count = count;

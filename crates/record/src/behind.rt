@@ -1,33 +1,20 @@
 // A journal replayed, and a list recorded behind it.
-ghost use Rattle.kit.specs.Names.{◌≤◌, length};
+ghost use Rattle.std.specs.Prelude.{◌≤◌, length};
+ghost use Rattle.layout.specs.State.{Sized};
 
-use check::same;
+use anyhow::{Context, Result};
+use files::name::name_of;
 use journal::known::Known;
 use journal_append::bytes::lent;
-use record_answer::disk::is_short;
+use record_answer::disk::{is_short, too_large};
 use record_answer::job::Shelf;
 use record_calls::calls::record_calls;
 use replaying::replay::replay;
+use std::fs;
+use std::process::ExitCode;
+use std::rt::Files;
 use valid::valid::segments;
-use verb_words::answer::{complain, end_with, gave_up};
-
-// The descriptor of the list that the program's second word names: `-` is standard input. Where there is none it was said why.
-fn calls_opened() -> i32 {
-    let mut path = io::buffer();
-    let end = os::arg(2, &mut path);
-    if os::errno() != 0 {
-        os::fail(b"CALLS");
-        return -1;
-    }
-    if same(&path[0..end], b"-") {
-        return 0;
-    }
-    let fd = os::open_read(&path[0..end]);
-    if fd < 0 {
-        os::fail(&path[0..end]);
-    }
-    fd
-}
+use verb_words::answer::end_with;
 
 // How many segments the journal has in the first `used` bytes.
 fn segments_by(bytes: &[u8], used: usize) -> usize
@@ -37,18 +24,18 @@ fn segments_by(bytes: &[u8], used: usize) -> usize
 }
 
 // A journal that is refused.
-fn refuse(path: &[u8], no: u32, entry: usize, log: usize) {
+fn refuse(rt: &impl Print, path: &[u8], no: u32, entry: usize, log: usize) -> Result<ExitCode> {
     if is_short(no, 0, 0, log) {
-        complain(path, b"larger than the program takes");
-        gave_up();
-        return;
+        return Err(too_large(path));
     }
-    end_with(no, entry as u64);
+    end_with(rt, no, entry as u64)
 }
 
 // Replays the journal's first `used` bytes into a fresh table in all of the memory, and then records CALLS.
 pub fn record_journal(
+    rt: &(impl Files + Input + Print),
     path: &[u8],
+    calls: &[u8],
     shelf: Shelf,
     used: usize,
     parents: &mut [u32],
@@ -57,7 +44,7 @@ pub fn record_journal(
     log: &mut [u32],
     line: &mut [u8],
     bytes: &mut [u8],
-)
+) -> Result<ExitCode>
     requires { used ≤ length bytes.old }
 {
     let mut numbers = [0u32; 67];
@@ -72,13 +59,7 @@ pub fn record_journal(
         &bytes[0..used],
     );
     if ended.no != 0 {
-        refuse(path, ended.no, ended.entry, log.len());
-        return;
-    }
-    let fd = calls_opened();
-    if fd < 0 {
-        gave_up();
-        return;
+        return refuse(rt, path, ended.no, ended.entry, log.len());
     }
     let head = ended.head;
     let known = Known {
@@ -88,11 +69,12 @@ pub fn record_journal(
         waiting: 0,
     };
     let most = lent(used, shelf.room, bytes.len());
-    record_calls(
+    record_opened(
+        rt,
         known,
         shelf,
         ended.entry as u64,
-        fd,
+        calls,
         path,
         &mut numbers,
         &mut serials,
@@ -102,5 +84,50 @@ pub fn record_journal(
         log,
         &mut bytes[0..most],
         line,
-    );
+    )
+}
+
+// CALLS opened: `-` is standard input.
+fn record_opened(
+    rt: &(impl Files + Input),
+    known: Known,
+    shelf: Shelf,
+    entries: u64,
+    calls: &[u8],
+    path: &[u8],
+    numbers: &mut [u32],
+    serials: &mut [u64],
+    parents: &mut [u32],
+    crowns: &mut [u32],
+    amounts: &mut [u64],
+    log: &mut [u32],
+    journal: &mut [u8],
+    line: &mut [u8],
+) -> Result<ExitCode>
+    requires { Sized numbers.old serials.old }
+{
+    if calls == b"-".as_slice() {
+        return record_calls(
+            rt,
+            known,
+            shelf,
+            entries,
+            &mut rt.reader(),
+            path,
+            numbers,
+            serials,
+            parents,
+            crowns,
+            amounts,
+            log,
+            journal,
+            line,
+        );
+    }
+    let name = name_of(calls)?;
+    let mut file = fs::open(rt, name).context(name)?;
+    record_calls(
+        rt, known, shelf, entries, &mut file, path, numbers, serials, parents, crowns, amounts,
+        log, journal, line,
+    )
 }

@@ -1,48 +1,32 @@
-ghost use Rattle.kit.specs.Names.{◌≤◌, length};
+ghost use Rattle.std.specs.Prelude.{◌≡◌, ◌≤◌, length, IfOk, OnErr};
 
-use files::read::Found;
+use anyhow::{Context, Result};
+use files::name::name_of;
 use journal_file::read::read_journal;
-use verb_words::answer::complain;
+use std::io::ErrorKind;
+use std::rt::Files;
 
-// The journal's bytes read, and whether its file is there; or it was said why they can't be.
-#[derive(Drop)]
+// The journal's bytes read, and whether its file is there.
+#[derive(Clone, Copy)]
 pub struct Journal {
-    pub good: bool,
     pub existed: bool,
     pub length: usize,
 }
 
-fn no_bytes(good: bool) -> Journal
-    ensures { result.length ≤ 0 }
-{
-    Journal {
-        good,
-        existed: false,
-        length: 0,
-    }
-}
-
 // "A missing JOURNAL is an empty one for `append` and `record` alone."
-pub fn found_journal(path: &[u8], bytes: &mut [u8]) -> Journal
-    ensures { result.length ≤ length bytes.new }
+pub fn found_journal(rt: &impl Files, path: &[u8], bytes: &mut [u8]) -> Result<Journal>
+    ensures ok { IfOk result (λ journal. journal.length ≤ length bytes.new) }
+    ensures err { OnErr result (length bytes.new ≡ length bytes.old) }
 {
-    let read = read_journal(path, bytes);
-    let length = read.length;
-    let found = read.found;
-    match found {
-        Found::Whole => Journal {
-            good: true,
+    match read_journal(rt, path, bytes) {
+        Ok(length) => Ok(Journal {
             existed: true,
             length,
-        },
-        Found::Missing => no_bytes(true),
-        Found::Unreadable => {
-            os::fail(path);
-            no_bytes(false)
-        }
-        Found::TooLong => {
-            complain(path, b"larger than the program takes");
-            no_bytes(false)
-        }
+        }),
+        Err(why) if why.kind() == ErrorKind::NotFound => Ok(Journal {
+            existed: false,
+            length: 0,
+        }),
+        Err(why) => Err(why).context(name_of(path)?),
     }
 }

@@ -1,9 +1,10 @@
-ghost use Rattle.kit.specs.Names.{◌≤◌, length};
+ghost use Rattle.std.specs.Prelude.{◌≤◌, length};
 ghost use Rattle.layout.specs.State.{Sized};
 
-use crate::disk::{is_short, on_disk};
-use crate::job::{Job, Shelf, given_up, next_job};
-use crate::print::{put_pair, written_out};
+use crate::disk::{is_short, on_disk, too_large};
+use crate::job::{Job, Shelf, next_job};
+use crate::output::{put_pair, written_out};
+use anyhow::Result;
 use arrays::reply::Reply;
 use damage::damage::fresh;
 use lent_state::state::state_in;
@@ -13,7 +14,7 @@ use recording::segment::flush;
 use rules::call::Call;
 use rules::table::State;
 use say::say::say;
-use verb_words::answer::complain;
+use std::rt::Files;
 
 // A reply printed, over all that is lent.
 fn put_reply<'a>(
@@ -47,9 +48,10 @@ fn put_reply<'a>(
 // A call that was carried out and written: its segment on disk, if it filled one, and then its answer. That says nothing of the state, so
 // any will do to print it.
 fn answer_done<'a>(
+    rt: &impl Files,
     job: Job,
     shelf: Shelf,
-    path: &'a [u8],
+    path: &[u8],
     parents: &'a [u32],
     crowns: &'a [u32],
     amounts: &'a [u64],
@@ -58,26 +60,25 @@ fn answer_done<'a>(
     out: &mut [u8],
     call: Call,
     done: Recorded,
-) -> Job
+) -> Result<Job>
     requires { 256 ≤ length out.old }
 {
     let known = job.known;
     let after = done.known;
     let answer = done.answer;
     if is_short(answer.no, journal.len(), shelf.room, log.len()) {
-        complain(path, b"larger than the program takes");
-        return given_up(job);
+        return Err(too_large(path));
     }
-    if !on_disk(path, shelf.existed, known.used, after.used, journal) {
-        return given_up(job);
-    }
+    on_disk(rt, path, shelf.existed, known.used, after.used, journal)?;
     let reply = Reply::Answer(call, answer);
-    let at = put_reply(out, job, fresh(), parents, crowns, amounts, log, reply);
-    next_job(job, after, written_out(out, at, known.used, after.used))
+    let end = put_reply(out, job, fresh(), parents, crowns, amounts, log, reply);
+    let at = written_out(out, end, known.used, after.used);
+    Ok(next_job(job, after, at))
 }
 
 // A call.
 fn answer_call(
+    rt: &impl Files,
     job: Job,
     shelf: Shelf,
     path: &[u8],
@@ -90,7 +91,7 @@ fn answer_call(
     journal: &mut [u8],
     out: &mut [u8],
     call: Call,
-) -> Job
+) -> Result<Job>
     requires sized { Sized numbers.old serials.old }
     requires in_bounds { 256 ≤ length out.old }
 {
@@ -99,23 +100,29 @@ fn answer_call(
         numbers, serials, parents, crowns, amounts, log, journal, known, call,
     );
     answer_done(
-        job, shelf, path, parents, crowns, amounts, log, journal, out, call, done,
+        rt, job, shelf, path, parents, crowns, amounts, log, journal, out, call, done,
     )
 }
 
 // "the entries since the last segment as a segment, if there are any -> NO LENGTH"
-fn answer_flush(job: Job, shelf: Shelf, path: &[u8], journal: &mut [u8], out: &mut [u8]) -> Job
+fn answer_flush(
+    rt: &impl Files,
+    job: Job,
+    shelf: Shelf,
+    path: &[u8],
+    journal: &mut [u8],
+    out: &mut [u8],
+) -> Result<Job>
     requires { 256 ≤ length out.old }
 {
     let known = job.known;
     let flushed = flush(journal, known);
     let after = flushed.known;
-    if !on_disk(path, shelf.existed, known.used, after.used, journal) {
-        return given_up(job);
-    }
+    on_disk(rt, path, shelf.existed, known.used, after.used, journal)?;
     let reading = job.reading;
-    let at = put_pair(out, reading.at, flushed.no, after.used as u64);
-    next_job(job, after, written_out(out, at, known.used, after.used))
+    let end = put_pair(out, reading.at, flushed.no, after.used as u64);
+    let at = written_out(out, end, known.used, after.used);
+    Ok(next_job(job, after, at))
 }
 
 // The table shown, an error, or nothing at all.
@@ -141,6 +148,7 @@ fn answer_shown<'a>(
 
 // A line that has ended.
 pub fn answer_line(
+    rt: &impl Files,
     job: Job,
     shelf: Shelf,
     path: &[u8],
@@ -153,22 +161,23 @@ pub fn answer_line(
     journal: &mut [u8],
     line: &[u8],
     out: &mut [u8],
-) -> Job
+) -> Result<Job>
     requires sized { Sized numbers.old serials.old }
     requires in_bounds { 256 ≤ length out.old }
 {
     let reading = job.reading;
     if !reading.ended {
-        return job;
+        return Ok(job);
     }
     let asked = line_asked(line, reading.n, reading.overlong);
     match asked {
         Asked::Call(call) => answer_call(
-            job, shelf, path, numbers, serials, parents, crowns, amounts, log, journal, out, call,
+            rt, job, shelf, path, numbers, serials, parents, crowns, amounts, log, journal, out,
+            call,
         ),
-        Asked::Flush => answer_flush(job, shelf, path, journal, out),
-        Asked::Say(reply) => answer_shown(
+        Asked::Flush => answer_flush(rt, job, shelf, path, journal, out),
+        Asked::Say(reply) => Ok(answer_shown(
             job, numbers, serials, parents, crowns, amounts, log, out, reply,
-        ),
+        )),
     }
 }

@@ -1,25 +1,41 @@
+use anyhow::{Context, Error, Result};
+use files::name::name_of;
 use journal_file::add::add_segment;
 use rules::numbers::{ENTRY, LOG_FULL, MAX_ENTRIES, NO_ROOM};
-use verb_words::answer::complain;
+use std::rt::Files;
 
 // A journal that has bytes has a file.
 fn is_there(existed: bool, old: usize) -> bool {
-    if existed {
-        return true;
-    }
-    old > 0
+    existed || old > 0
 }
 
-// Where a segment was made behind the journal's first `old` bytes: puts it on disk. Where this answers false it has said why.
-pub fn on_disk(path: &[u8], existed: bool, old: usize, new: usize, journal: &[u8]) -> bool {
+// That the journal is longer than the program has memory for.
+pub fn too_large(path: &[u8]) -> Error {
+    let why = Error::msg("larger than the program takes");
+    match name_of(path) {
+        Ok(name) => why.context(name),
+        Err(other) => Error::from(other),
+    }
+}
+
+// Where a segment was made behind the journal's first `old` bytes: puts it on disk.
+pub fn on_disk(
+    rt: &impl Files,
+    path: &[u8],
+    existed: bool,
+    old: usize,
+    new: usize,
+    journal: &[u8],
+) -> Result<()> {
     if new <= old {
-        return true;
+        return Ok(());
     }
     if new > journal.len() {
-        complain(path, b"larger than the program takes");
-        return false;
+        return Err(too_large(path));
     }
-    add_segment(path, is_there(existed, old), old, &journal[old..new])
+    let segment = &journal[old..new];
+    let name = name_of(path)?;
+    add_segment(rt, path, is_there(existed, old), old, segment).context(name)
 }
 
 // Whether a call was refused only since the program has less memory than the journal may fill, or than document 01's log.

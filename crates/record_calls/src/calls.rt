@@ -1,17 +1,21 @@
-ghost use Rattle.kit.specs.Names.{◌≤◌, length};
+ghost use Rattle.std.specs.Prelude.{◌≤◌, length};
 ghost use Rattle.layout.specs.State.{Sized};
 
 use crate::input::read_on;
+use anyhow::{Context, Result};
 use commands::command::Lengths;
 use journal::known::Known;
 use reading::read::begin;
 use record_answer::answer::answer_line;
 use record_answer::disk::on_disk;
 use record_answer::job::{Job, Shelf};
-use record_answer::print::put_pair;
+use record_answer::output::put_pair;
 use recording::segment::flush;
 use show::buffer::flush as write_out;
-use verb_words::answer::{answered, gave_up};
+use std::io::Read;
+use std::process::ExitCode;
+use std::rt::Files;
+use verb_words::answer::answered;
 
 // Nothing read yet, and all of the memory lent. The verb's first line is printed already, up to this place.
 fn begin_at(known: Known, at: usize) -> Job {
@@ -24,28 +28,22 @@ fn begin_at(known: Known, at: usize) -> Job {
     let mut reading = begin();
     reading.lengths = lengths;
     reading.at = at;
-    Job {
-        reading,
-        known,
-        failed: false,
-    }
+    Job { reading, known }
 }
 
 // Whether there is a line more to answer.
 fn goes_on(job: Job) -> bool {
-    if job.failed {
-        return false;
-    }
     let reading = job.reading;
     reading.more
 }
 
 // The lines one after the other. A proved loop has to end, and nothing says that the input does: so turns are counted down, from a number
 // that no run uses up.
-fn answer_all(
+fn answer_all<R: Read>(
+    rt: &impl Files,
     begun: Job,
     shelf: Shelf,
-    fd: i32,
+    source: &mut R,
     path: &[u8],
     numbers: &mut [u32],
     serials: &mut [u64],
@@ -57,7 +55,7 @@ fn answer_all(
     input: &mut [u8],
     line: &mut [u8],
     out: &mut [u8],
-) -> Job
+) -> Result<Job>
     requires sized { Sized numbers.old serials.old }
     requires in_bounds { 256 ≤ length out.old }
 {
@@ -67,40 +65,42 @@ fn answer_all(
         if !goes_on(job) {
             break;
         }
-        job = read_on(fd, job, input, line);
+        job = read_on(source, job, input, line).context("CALLS")?;
         job = answer_line(
-            job, shelf, path, numbers, serials, parents, crowns, amounts, log, journal, line, out,
-        );
+            rt, job, shelf, path, numbers, serials, parents, crowns, amounts, log, journal, line,
+            out,
+        )?;
         turns -= 1;
     }
-    job
+    Ok(job)
 }
 
-// The end of the list: what waits is put on disk as a segment, and then all is written out that was printed. Of a list that was given up
-// no more is printed.
-fn finish(job: Job, shelf: Shelf, path: &[u8], journal: &mut [u8], out: &[u8]) {
-    if job.failed {
-        gave_up();
-        return;
-    }
+// The end of the list: what waits is put on disk as a segment, and then all is written out that was printed.
+fn finish(
+    rt: &impl Files,
+    job: Job,
+    shelf: Shelf,
+    path: &[u8],
+    journal: &mut [u8],
+    out: &[u8],
+) -> Result<ExitCode> {
     let known = job.known;
     let flushed = flush(journal, known);
     let after = flushed.known;
-    if !on_disk(path, shelf.existed, known.used, after.used, journal) {
-        gave_up();
-        return;
-    }
+    on_disk(rt, path, shelf.existed, known.used, after.used, journal)?;
     let reading = job.reading;
     write_out(out, reading.at);
-    answered(0);
+    Ok(answered(0))
 }
 
-// The calls of a list recorded behind a journal that was replayed, of so many entries.
-pub fn record_calls(
+// The calls of a list recorded behind a journal that was replayed, of so many entries. Of a list that is given up, what was not yet
+// written out is not printed.
+pub fn record_calls<R: Read>(
+    rt: &impl Files,
     known: Known,
     shelf: Shelf,
     entries: u64,
-    fd: i32,
+    source: &mut R,
     path: &[u8],
     numbers: &mut [u32],
     serials: &mut [u64],
@@ -110,16 +110,17 @@ pub fn record_calls(
     log: &mut [u32],
     journal: &mut [u8],
     line: &mut [u8],
-)
+) -> Result<ExitCode>
     requires { Sized numbers.old serials.old }
 {
-    let mut input = io::large_buffer();
-    let mut out = io::large_buffer();
+    let mut input = [0u8; 65536];
+    let mut out = [0u8; 65536];
     let at = put_pair(&mut out, 0, 0, entries);
     let job = answer_all(
+        rt,
         begin_at(known, at),
         shelf,
-        fd,
+        source,
         path,
         numbers,
         serials,
@@ -131,6 +132,6 @@ pub fn record_calls(
         &mut input,
         line,
         &mut out,
-    );
-    finish(job, shelf, path, journal, &out);
+    )?;
+    finish(rt, job, shelf, path, journal, &out)
 }

@@ -1,45 +1,31 @@
-use journal::known::Known;
 use reading::read::{Reading, take};
 use record_answer::job::Job;
+use std::io;
+use std::io::Read;
 
 // More input, where none is at hand and there is any. Unlike `reading::read::refill` it tells an input that can't be read from one that
 // has ended.
-fn refill_from(fd: i32, reading: Reading, known: Known, input: &mut [u8]) -> Job {
+fn refill_from<R: Read>(source: &mut R, reading: Reading, input: &mut [u8]) -> io::Result<Reading> {
     if reading.from < reading.count {
-        return Job {
-            reading,
-            known,
-            failed: false,
-        };
+        return Ok(reading);
     }
-    let got = libc::read(fd, input);
-    let count = io::count(got, input);
+    let count = source.read(input)?;
     let mut after = reading;
     after.from = 0;
     after.count = count;
     after.more = count > 0;
-    if got < 0 {
-        os::fail(b"CALLS");
-    }
-    Job {
-        reading: after,
-        known,
-        failed: got < 0,
-    }
+    Ok(after)
 }
 
 // The input read on, up to a line's end. A list that can't be read any further has no line that ends.
-pub fn read_on(fd: i32, job: Job, input: &mut [u8], line: &mut [u8]) -> Job {
-    let begun = job.reading;
+pub fn read_on<R: Read>(
+    source: &mut R,
+    job: Job,
+    input: &mut [u8],
+    line: &mut [u8],
+) -> io::Result<Job> {
     let known = job.known;
-    let filled = refill_from(fd, begun, known, input);
-    if filled.failed {
-        return filled;
-    }
-    let reading = take(filled.reading, input, line);
-    Job {
-        reading,
-        known,
-        failed: false,
-    }
+    let filled = refill_from(source, job.reading, input)?;
+    let reading = take(filled, input, line);
+    Ok(Job { reading, known })
 }

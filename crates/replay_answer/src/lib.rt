@@ -1,2 +1,4 @@
 // What the verb replay prints.
+#![tactic(auto)]
+
 pub mod answer;

@@ -1,2 +1,4 @@
 // The verb replay, over memory that is lent for the journal and for the table.
+#![tactic(auto)]
+
 pub mod verb;

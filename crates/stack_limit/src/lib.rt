@@ -1,2 +1,4 @@
 // How much stack the program has.
+#![tactic(auto)]
+
 pub mod limit;

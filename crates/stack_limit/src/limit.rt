@@ -1,19 +1,20 @@
-// The limit as the system tells it in a text. `libc::getrlimit` would store it behind a reference to a struct, which takes a proof by
-// hand; and nothing is lost where the text can't be read, since the program then takes little memory.
-ghost use Rattle.kit.specs.Names.{◌≤◌, length};
+// The limit as the system tells it in a text.
+ghost use Rattle.std.specs.Prelude.{◌≤◌, length};
 
 use check::same;
 use files::read::read_front;
+use std::rt::Files;
 use words::number::{Number, read};
 use words::words::{skip_blanks, word_end};
 
 // The bytes of stack that the program may use: 0 where that is not known, or has no limit. (Under an emulator a stack without a limit
 // is a small one.)
-pub fn stack_limit() -> u64 {
-    let mut text = io::buffer();
-    let got = read_front(b"/proc/self/limits", &mut text);
-    let length = got.length;
-    limit_in(&text[0..length])
+pub fn stack_limit(rt: &impl Files) -> u64 {
+    let mut text = [0u8; 4096];
+    match read_front(rt, b"/proc/self/limits", &mut text) {
+        Ok(length) => limit_in(&text[0..length]),
+        Err(_) => 0,
+    }
 }
 
 // The soft limit in the text's line about the stack.

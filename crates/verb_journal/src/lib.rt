@@ -1,2 +1,4 @@
 // The journal that a verb's words name, for the verbs that only read it.
+#![tactic(auto)]
+
 pub mod named;

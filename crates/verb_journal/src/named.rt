@@ -1,53 +1,23 @@
-ghost use Rattle.kit.specs.Names.{◌≤◌, length};
+ghost use Rattle.std.specs.Prelude.{◌≡◌, ◌≤◌, length, IfOk, OnErr};
 
-use files::read::Found;
+use anyhow::{Context, Result};
+use files::name::name_of;
 use journal_file::read::read_journal;
-use verb_words::answer::complain;
+use std::rt::Files;
+use verb_words::given::word_at;
 
-// A journal that is read, or of which it is said why it can't be.
-#[derive(Drop)]
-pub struct Journal {
-    pub read: bool,
-    pub length: usize,
+// Answers the journal's length.
+fn journal_at(rt: &impl Files, path: &[u8], bytes: &mut [u8]) -> Result<usize>
+    ensures ok { IfOk result (λ count. count ≤ length bytes.new) }
+    ensures err { OnErr result (length bytes.new ≡ length bytes.old) }
+{
+    read_journal(rt, path, bytes).context(name_of(path)?)
 }
 
-fn no_journal() -> Journal
-    ensures { result.length ≤ 0 }
+// The journal that the first of the words names. Answers its length.
+pub fn journal_named(rt: &impl Files, words: &[String], bytes: &mut [u8]) -> Result<usize>
+    ensures ok { IfOk result (λ count. count ≤ length bytes.new) }
+    ensures err { OnErr result (length bytes.new ≡ length bytes.old) }
 {
-    Journal {
-        read: false,
-        length: 0,
-    }
-}
-
-fn journal_at(path: &[u8], bytes: &mut [u8]) -> Journal
-    ensures { result.length ≤ length bytes.new }
-{
-    let got = read_journal(path, bytes);
-    let length = got.length;
-    let found = got.found;
-    match found {
-        Found::Whole => Journal { read: true, length },
-        Found::TooLong => {
-            complain(path, b"larger than the program takes");
-            no_journal()
-        }
-        _ => {
-            os::fail(path);
-            no_journal()
-        }
-    }
-}
-
-// The journal that the program's first word names.
-pub fn journal_named(bytes: &mut [u8]) -> Journal
-    ensures { result.length ≤ length bytes.new }
-{
-    let mut path = io::buffer();
-    let end = os::arg(1, &mut path);
-    if os::errno() != 0 {
-        os::fail(b"JOURNAL");
-        return no_journal();
-    }
-    journal_at(&path[0..end], bytes)
+    journal_at(rt, word_at(words, 1).as_bytes(), bytes)
 }

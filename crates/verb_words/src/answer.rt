@@ -1,50 +1,54 @@
-// What a verb ends with: its first line, and its status. A program can't end with a status, so it writes one digit to descriptor 3, of
-// which `./meter` makes its own; where nobody listens there, nothing is lost.
-use digits::put::{put_byte, put_next, put_number};
+// What a verb ends with: its first line, and its status.
+ghost use Rattle.std.specs.Prelude.{◌≡◌, ◌≢◌};
+ghost use Rattle.std.specs.Process.{exit_status};
 
-const STATUS: i32 = 3;
+use anyhow::Context;
+use std::io;
+use std::process::ExitCode;
 
-// `NO NUMBER` and a line feed. Answers whether it is printed.
-pub fn print_line(no: u32, number: u64) -> bool {
-    let mut text = [0u8; 64];
-    let middle = put_number(&mut text, 0, no as u64);
-    let end = put_next(&mut text, middle, number);
-    let whole = put_byte(&mut text, end, b'\n');
-    if !io::write_all(1, &text[0..whole]) {
-        os::fail(b"standard output");
-        return false;
-    }
-    true
+// `NO NUMBER` and a line feed.
+pub fn print_line(rt: &impl Print, no: u32, number: u64) -> io::Result<()> {
+    println!(rt; "{no} {number}")
 }
 
 // "status 0 where NO is 0, with 1 where it is a refusal"
-pub fn answered(no: u32) {
+pub fn answered(no: u32) -> ExitCode
+    ensures done { no ≡ 0 → exit_status result ≡ 0 }
+    ensures refused { no ≢ 0 → exit_status result ≡ 1 }
+{
     if no == 0 {
-        io::write_all(STATUS, b"0");
+        ExitCode::from(0)
     } else {
-        io::write_all(STATUS, b"1");
+        ExitCode::from(1)
     }
 }
 
 // The first line of a verb that prints no other, and its status.
-pub fn end_with(no: u32, number: u64) {
-    if !print_line(no, number) {
-        gave_up();
-        return;
-    }
-    answered(no);
+pub fn end_with(rt: &impl Print, no: u32, number: u64) -> anyhow::Result<ExitCode> {
+    print_line(rt, no, number).context("standard output")?;
+    Ok(answered(no))
 }
 
 // "with 2 .. where the words are no verb's, a file can't be read or written, or is larger than the program takes". Who calls this has
 // said on standard error which it is.
-pub fn gave_up() {
-    io::write_all(STATUS, b"2");
+pub fn gave_up() -> ExitCode
+    ensures { exit_status result ≡ 2 }
+{
+    ExitCode::from(2)
 }
 
-// Says that something of this name is not taken, and why.
-pub fn complain(name: &[u8], why: &[u8]) {
-    io::write_all(2, name);
-    io::write_all(2, b": ");
-    io::write_all(2, why);
-    io::write_all(2, b"\n");
+// Says on standard error why the verb gave up. Where even that can't be written, the status alone tells it.
+pub fn complain(rt: &impl Eprint, why: &anyhow::Error) {
+    let _ = rt.eprintln(format_args!("{why:#}"));
+}
+
+// What the program ends with.
+pub fn ended(rt: &impl Eprint, verb: anyhow::Result<ExitCode>) -> ExitCode {
+    match verb {
+        Ok(status) => status,
+        Err(why) => {
+            complain(rt, &why);
+            gave_up()
+        }
+    }
 }

@@ -1,7 +1,8 @@
 // FILES.md: "Options come in the order shown. Numbers are decimal. A number above its width .. is no verb's words."
-ghost use Rattle.kit.specs.Names.{◌≡◌, ◌≤◌, ◌<◌};
+ghost use Rattle.std.specs.Prelude.{◌≡◌, ◌≤◌, ◌<◌};
 ghost use Rattle.verb_words.specs.Option.{chosen};
 
+use crate::given::word_at;
 use check::same;
 use words::number::{Number, read};
 
@@ -28,14 +29,12 @@ pub fn option_of(name: &[u8], limit: u64, word: &[u8], number: &[u8]) -> Chosen
     }
 }
 
-// The same of the program's argument at a place and the one after it. One that is missing is an empty word.
-pub fn option_at(at: usize, name: &[u8], limit: u64) -> Chosen
+// The same of the program's word at a place and the one after it.
+pub fn option_at(words: &[String], at: usize, name: &[u8], limit: u64) -> Chosen
     requires at_bound { at < 1000 }
     requires le_limit { 9 ≤ limit }
 {
-    let mut word = io::buffer();
-    let mut number = io::buffer();
-    let a = os::arg(at, &mut word);
-    let b = os::arg(at + 1, &mut number);
-    option_of(name, limit, &word[0..a], &number[0..b])
+    let word = word_at(words, at);
+    let number = word_at(words, at + 1);
+    option_of(name, limit, word.as_bytes(), number.as_bytes())
 }

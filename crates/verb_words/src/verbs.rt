@@ -1,8 +1,7 @@
-// The words of each verb. Argument 0 is the program's name, and the verb's own is not among them.
+// The words of each verb. Word 0 is the program's name, and the verb's own is not among them.
 ghost use Rattle.std.specs.Prelude.{◌<◌};
 
 use crate::option::{Chosen, option_at};
-use os::arg_count;
 
 // "a `room` above 16,777,216 bytes, is no verb's words"
 pub const MOST_ROOM: u64 = 16777216;
@@ -17,11 +16,11 @@ pub struct AppendWords {
     pub room: u64,
 }
 
-pub fn append_words() -> AppendWords {
-    let room = option_at(3, b"room", MOST_ROOM);
+pub fn append_words(words: &[String]) -> AppendWords {
+    let room = option_at(words, 3, b"room", MOST_ROOM);
     match room {
         Chosen::Absent => AppendWords {
-            good: arg_count() == 3,
+            good: words.len() == 3,
             room: MOST_ROOM,
         },
         Chosen::Wrong => AppendWords {
@@ -29,7 +28,7 @@ pub fn append_words() -> AppendWords {
             room: 0,
         },
         Chosen::Given(n) => AppendWords {
-            good: arg_count() == 5,
+            good: words.len() == 5,
             room: n,
         },
     }
@@ -43,27 +42,27 @@ pub struct ReplayWords {
     pub log: u64,
 }
 
-pub fn replay_words() -> ReplayWords {
-    let rows = option_at(2, b"rows", MOST_WORD);
+pub fn replay_words(words: &[String]) -> ReplayWords {
+    let rows = option_at(words, 2, b"rows", MOST_WORD);
     match rows {
-        Chosen::Absent => replay_words_from(2, 65536),
+        Chosen::Absent => replay_words_from(words, 2, 65536),
         Chosen::Wrong => ReplayWords {
             good: false,
             rows: 0,
             log: 0,
         },
-        Chosen::Given(n) => replay_words_from(4, n),
+        Chosen::Given(n) => replay_words_from(words, 4, n),
     }
 }
 
 // With so many words before the second option.
-fn replay_words_from(at: usize, rows: u64) -> ReplayWords
+fn replay_words_from(words: &[String], at: usize, rows: u64) -> ReplayWords
     requires { at < 900 }
 {
-    let log = option_at(at, b"log", MOST_WORD);
+    let log = option_at(words, at, b"log", MOST_WORD);
     match log {
         Chosen::Absent => ReplayWords {
-            good: arg_count() == at,
+            good: words.len() == at,
             rows,
             log: 1048576,
         },
@@ -73,7 +72,7 @@ fn replay_words_from(at: usize, rows: u64) -> ReplayWords
             log: 0,
         },
         Chosen::Given(n) => ReplayWords {
-            good: arg_count() == at + 2,
+            good: words.len() == at + 2,
             rows,
             log: n,
         },

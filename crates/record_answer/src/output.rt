@@ -1,4 +1,4 @@
-ghost use Rattle.kit.specs.Names.{◌≤◌, length};
+ghost use Rattle.std.specs.Prelude.{◌≤◌, length};
 
 use digits::put::{put_byte, put_next, put_number};
 use show::buffer::{flush, word};

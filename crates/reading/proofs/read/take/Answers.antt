@@ -1,0 +1,12 @@
+-- What was gathered is the line taken so far. Assumes nothing.
+use Rattle.lines.specs.Lines.{reached, line}
+use Rattle.reading.proofs.TakingLaws.{gathered}
+use Rattle.reading.proofs.read.take.Goals as goal
+
+pub returns : goal.returns
+returns c =
+    let a = c.args in
+    let g = c.gather-got.result in
+    let b = c.gather-got.new.line in
+    gathered a.reading a.line.now a.input.now (reached (line b g.n g.overlong) g.next g.ended) c.ends.result
+    c.line_number.result c.gather-got.ensures (c.ends.ensures b) c.line_number.ensures
