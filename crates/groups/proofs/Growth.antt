@@ -1,5 +1,5 @@
 -- What a call takes up, in any table whatever: at most 32 entries of the log and one serial. What is lent keeps its lengths.
-use Rattle.std.specs.Prelude.{◌≡◌, ◌||◌, ◌∷◌, ◌++◌, ◌+◌, ◌-◌, ◌≤◌}
+use Rattle.std.specs.Prelude.{◌≡◌, ◌||◌, ◌∷◌, ◌++◌, ◌+◌, ◌-◌, ◌≤◌, Ok, Err, None, Some}
 use Rattle.kit.specs.Names.{refl, ◌∙◌, Bool, true, false, not, List, [], ℕ, zero, suc, length, length-set}
 use Rattle.kit.specs.Names.{length-append, get_or, eqb, ltb, arith, le_refl, ltb-false}
 use Rattle.rules.specs.Rules.{Call, UndoLog, Mark, Answer, Value, Merged, Sought, Head, MAX-REDIRECTS, MAX-OPEN, MAX-U64, Rows, Table, value_of, row_at}
@@ -10,8 +10,7 @@ use Rattle.rules.specs.Rules.{undoable, undo, Outcome, outcome, carry, resting, 
 use Rattle.rules.specs.declared.call.Call.TheVariants.{New, Len, Find, Unioned, Join, Post, Probe, ProbeKey, TryProbe, Snapshot, Rollback, Commit}
 use Rattle.rules.specs.declared.call.Call.TheVariants.{Keys, Actions, Changes}
 use Rattle.rules.specs.declared.table.UndoLog.TheVariants.{NewElem, SetElem, Unknown}
-use Rattle.rules.specs.declared.table.Merged.TheVariants.{Clash, TooMuch, Both}
-use Rattle.rules.specs.declared.table.Sought.TheVariants.{Missing, Held}
+use Rattle.rules.specs.declared.table.MergeError.TheVariants.{Clash, TooMuch}
 use Rattle.groups.specs.Acceptance.{MOST-LOGGED}
 use Rattle.groups.proofs.Tools.{on_cond}
 
@@ -61,9 +60,9 @@ walk_few n rs count key next f =
 
 settle_few : (n : ℕ) (walked : List Write) (s : ℕ) (more : Value → List Write) (m : Merged)
     → ((v : Value) → length walked + length (more v) ≤ n) → length walked ≤ n → Few n (settle walked s more m)
-settle_few n walked s more Clash f h = h
-settle_few n walked s more TooMuch f h = h
-settle_few n walked s more (Both v) f h = omega (arith, length-append walked (more v), f v)
+settle_few n walked s more (Err Clash) f h = h
+settle_few n walked s more (Err TooMuch) f h = h
+settle_few n walked s more (Ok v) f h = omega (arith, length-append walked (more v), f v)
 
 pub post_few : (rs : Rows) (count key : ℕ) (v : Value) → Few MOST-LOGGED (walk rs count key (post_on v))
 post_few rs count key v = walk_few MOST-LOGGED rs count key (post_on v) (λ w h.
@@ -171,8 +170,8 @@ module _ (t : Table) where
       }))
 
   asked_grows : (reply : Mark → Answer) (s : Sought) → Grows t (resting t (asked t.state reply s))
-  asked_grows reply Missing = still _
-  asked_grows reply (Held m) =
+  asked_grows reply None = still _
+  asked_grows reply (Some m) =
       on_cond (λ r. Grows t (resting t r)) (unfit (head_of t.state) m) (λ _. still _) (λ _. still _)
 
   snapshot_grows : Grows t (resting t (snapshot t.state))

@@ -1,12 +1,12 @@
 -- The plan of each call on rows: carried out, it moves the groups as the groups' own step says, and it is never BROKEN_TABLE.
-use Rattle.std.specs.Prelude.{◌≡◌, ◌∷◌, ◌++◌, ◌≢◌, ◌⊎◌, ◌+◌, ◌≤◌, ◌<◌}
+use Rattle.std.specs.Prelude.{◌≡◌, ◌∷◌, ◌++◌, ◌≢◌, ◌⊎◌, ◌+◌, ◌≤◌, ◌<◌, Ok, Err}
 use Rattle.kit.specs.Names.{refl, sym, ap, ap₂, ◌∙◌, subst, subst⁻¹, true, false, cond, List, [], inl, inr, ℕ, eqb, ltb, arith, eqb-true, eqb-false, eq-eqb}
 use Rattle.kit.specs.Names.{ne_eqb, le-ltb}
 use Rattle.rules.specs.Rules.{Call, Answer, Value, Row, Merged, DONE, BROKEN-TABLE, BAD-STATE, MAX-RANK, Rows, value, owner_of, row, value_of, row_at, put_row, WideRows}
 use Rattle.rules.specs.Rules.{merge, Write, redirect, crown, edit, writes, stepped, found, Plan, plan, Walked, walked_on, go_on, walk, walk_both, settle, unite}
 use Rattle.rules.specs.Rules.{too_high, find_on, unioned_on, join_on, post_on, probe_on, probe_key_on, try_probe}
 use Rattle.rules.specs.declared.call.Call.TheVariants.{Find, Unioned, Join, Post, Probe, ProbeKey, TryProbe}
-use Rattle.rules.specs.declared.table.Merged.TheVariants.{Clash, TooMuch, Both}
+use Rattle.rules.specs.declared.table.MergeError.TheVariants.{Clash, TooMuch}
 use Rattle.rules.proofs.ReadLaws.{Real, real_owner, row_real, row_hit, row_miss, wide_put}
 use Rattle.rules.proofs.MergeLaws.{merge_real}
 use Rattle.groups.specs.Groups.{Groups, Deed, joined, posted, at, hung, raised, hung_by_rank, group_step, replay, Merges, Accepts, Accepted}
@@ -42,7 +42,7 @@ pub record Planned (rs : Rows) (room : ℕ) (now : List Deed) (c : Call) (p : Pl
   pub inside : Inside (replay now).count p.todo
   pub peace : Calm p.answer.no
 
-settled_done : (walked : List Write) (s : ℕ) (more : Value → List Write) {m : Merged} {x : Value} → m ≡ Both x
+settled_done : (walked : List Write) (s : ℕ) (more : Value → List Write) {m : Merged} {x : Value} → m ≡ Ok x
     → (settle walked s more m).answer.no ≡ DONE
 settled_done walked s more e = rw e
 
@@ -166,14 +166,14 @@ module _ {rs : Rows} {room : ℕ} (now : List Deed) (A : Accepted now) (H : Hold
         → Planned rs room now (Post key owner amount)
         (settle walked_to.todo walked_to.steps (λ x. crown target (high walked_to.rows target) x ∷ []) m)
     unfolding group_step
-    post_settled Clash e = rests refl (walk_holds H key h) (walk_inside H key h) (calm 4 refl refl)
-    post_settled TooMuch e = rests refl (walk_holds H key h) (walk_inside H key h) (calm 5 refl refl)
-    post_settled (Both x) e =
+    post_settled (Err Clash) e = rests refl (walk_holds H key h) (walk_inside H key h) (calm 4 refl refl)
+    post_settled (Err TooMuch) e = rests refl (walk_holds H key h) (walk_inside H key h) (calm 5 refl refl)
+    post_settled (Ok x) e =
         let w : Walked = walked_to in
         let K : Holds w.rows g room = walk_holds H key h in
         let hr : target < g.count = H.whole.within key h in
-        let m : merge (g.value target) given ≡ Both x =
-        subst (λ (z : Value). merge z given ≡ Both x) (root_value K target hr (H.whole.settled key)) e in
+        let m : merge (g.value target) given ≡ Ok x =
+        subst (λ (z : Value). merge z given ≡ Ok x) (root_value K target hr (H.whole.settled key)) e in
         let a : Accepts g (posted key given) = (h, (x, m)) in
         let crowned : List Write = crown target (high w.rows target) x ∷ [] in
         let W : Whole (record { count = g.count; root = g.root; rank = g.rank; value = at target x g.value }) =
@@ -256,7 +256,7 @@ module _ {rs : Rows} {room : ℕ} (now : List Deed) (A : Accepted now) (H : Hold
           rw (le-ltb MAX-RANK (high second.rows r) (low a ha), le-ltb MAX-RANK (high second.rows s) (low b hb))
 
       -- The rows written by rank are those of the groups united by rank.
-      united_holds : (v : Value) → merge (g.value r) (g.value s) ≡ Both v → Real v.owner
+      united_holds : (v : Value) → merge (g.value r) (g.value s) ≡ Ok v → Real v.owner
           → Holds (writes second.rows (unite second.rows r s v)) (hung_by_rank g r s v) room × Inside g.count (unite second.rows r s v)
       united_holds v m real =
           let onto : ℕ → ℕ → ℕ → List Write = λ low top k. redirect low top ∷ crown top k v ∷ [] in
@@ -278,12 +278,12 @@ module _ {rs : Rows} {room : ℕ} (now : List Deed) (A : Accepted now) (H : Hold
       join_settled : (m : Merged) → merge (value_of (row_at second.rows r)) (value_of (row_at second.rows s)) ≡ m
           → Planned rs room now (Join a b) (settle walked (first.steps + second.steps) (unite second.rows r s) m)
       unfolding group_step
-      join_settled Clash e = rests refl walked_hold both_inside (calm 4 refl refl)
-      join_settled TooMuch e = rests refl walked_hold both_inside (calm 5 refl refl)
-      join_settled (Both v) e =
+      join_settled (Err Clash) e = rests refl walked_hold both_inside (calm 4 refl refl)
+      join_settled (Err TooMuch) e = rests refl walked_hold both_inside (calm 5 refl refl)
+      join_settled (Ok v) e =
           let vr : Value = value_of (row_at second.rows r) in
           let vs : Value = value_of (row_at second.rows s) in
-          let m : merge (g.value r) (g.value s) ≡ Both v =
+          let m : merge (g.value r) (g.value s) ≡ Ok v =
           sym (ap₂ merge (root_value both_hold r hr (H.whole.settled a)) (root_value both_hold s hs (H.whole.settled b))) ∙ e in
           let U = united_holds v m (merge_real vr vs v e (row_real second.rows r) (row_real second.rows s)) in
           let q : eqb r s ≡ false = ne_eqb r s d in

@@ -1,11 +1,10 @@
 -- What holds of the groups that accepted deeds make: each key has a live root that is its own root, and a root of rank r has at least
 -- 2^r keys in its group.
-use Rattle.std.specs.Prelude.{◌≡◌, ◌∷◌, ◌≢◌, ◌⊎◌, ◌+◌, ◌^◌, ◌≤◌, ◌<◌}
+use Rattle.std.specs.Prelude.{◌≡◌, ◌∷◌, ◌≢◌, ◌⊎◌, ◌+◌, ◌^◌, ◌≤◌, ◌<◌, Ok}
 use Rattle.kit.specs.Names.{refl, sym, ap, ◌∙◌, subst⁻¹, cond, List, [], inl, inr, ℕ, suc, ltb, lit<, arith, add-one, le_refl, le_trans, lt_of_not-le}
 use Rattle.kit.specs.Names.{not-le_of_lt, le_of_suc-le-suc, not-suc-le-zero, eq-eqb, ne_eqb, ltb-true, ltb-false}
 use lib.Pow.{pow_mono}
 use Rattle.rules.specs.Rules.{Value, merge, MAX-ROWS, MAX-RANK}
-use Rattle.rules.specs.declared.table.Merged.TheVariants.{Both}
 use Rattle.groups.specs.Sums.{total, ones, size}
 use Rattle.groups.specs.Groups.{Groups, no_groups, Deed, created, joined, posted, at, shift, hung, raised, group_step, replay, Accepts, Accepted}
 use Rattle.groups.proofs.Tools.{cases, by_same, up_to, either}
@@ -51,7 +50,7 @@ pub record Hangs (g : Groups) (a b low high k : ℕ) (v : Value) : Type 0 where
   pub high_root : g.root high ≡ high
   pub apart : low ≢ high
   pub ranked : Ranked (g.rank low) (g.rank high) k
-  pub merged : merge (g.value (g.root a)) (g.value (g.root b)) ≡ Both v
+  pub merged : merge (g.value (g.root a)) (g.value (g.root b)) ≡ Ok v
   pub which : ((low ≡ g.root a) × (high ≡ g.root b)) ⊎ ((low ≡ g.root b) × (high ≡ g.root a))
 
 -- A root afterwards is `high`, or it was a root before, and neither of the two.
@@ -68,7 +67,7 @@ hung_roots {g} {a} {b} {low} {high} H q e =
 
 -- Either way round.
 module _ (g : Groups) (W : Whole g) (a b : ℕ) (ha : a < g.count) (hb : b < g.count) (d : g.root a ≢ g.root b) (v : Value)
-    (m : merge (g.value (g.root a)) (g.value (g.root b)) ≡ Both v) (k : ℕ) where
+    (m : merge (g.value (g.root a)) (g.value (g.root b)) ≡ Ok v) (k : ℕ) where
   pub hangs_a : Ranked (g.rank (g.root a)) (g.rank (g.root b)) k → Hangs g a b (g.root a) (g.root b) k v
   hangs_a q = record {
     low_live = W.within a ha;

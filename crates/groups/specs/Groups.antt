@@ -1,8 +1,8 @@
 -- Document 01, "The meter's table", without parents and without a log: what a creation, a join and a post make of the groups.
-use Rattle.std.specs.Prelude.{◌≡◌, ◌∷◌, ◌⊎◌, ◌+◌, ◌<◌}
+use Rattle.std.specs.Prelude.{◌≡◌, ◌∷◌, ◌⊎◌, ◌+◌, ◌<◌, Ok, Err}
 use Rattle.kit.specs.Names.{cond, List, [], ℕ, suc, eqb, ltb}
 use Rattle.rules.specs.Rules.{Value, Merged, none, merge}
-use Rattle.rules.specs.declared.table.Merged.TheVariants.{Clash, TooMuch, Both}
+use Rattle.rules.specs.declared.table.MergeError.TheVariants.{Clash, TooMuch}
 
 -- The root of each key, each root's rank, and its owner and amount. "Live keys are 0 to count − 1"; a key that is not there yet is
 -- its own root. "only a root's rank, owner and amount mean anything".
@@ -47,9 +47,9 @@ hung_by_rank g a b v =
 
 -- A merge that fails moves nothing.
 abbrev pub if_both : Groups → (Value → Groups) → Merged → Groups
-if_both g move Clash = g
-if_both g move TooMuch = g
-if_both g move (Both v) = move v
+if_both g move (Err Clash) = g
+if_both g move (Err TooMuch) = g
+if_both g move (Ok v) = move v
 
 -- ---- the step of each deed, and of a list of them, the newest first
 
@@ -73,7 +73,7 @@ replay (d ∷ ds) = group_step (replay ds) d
 
 -- The merge succeeds.
 abbrev pub Merges : Value → Value → Type 0
-Merges v w = (x : Value) × (merge v w ≡ Both x)
+Merges v w = (x : Value) × (merge v w ≡ Ok x)
 
 abbrev pub Accepts : Groups → Deed → Type 0
 Accepts g (created key v) = key ≡ g.count

@@ -1,9 +1,8 @@
 -- The groups that accepted deeds make, and what the deeds come to: links, sums, owners and keys.
-use Rattle.std.specs.Prelude.{◌≡◌, ◌∷◌, ◌↔◌, ◌≢◌, ◌+◌, ◌<◌}
+use Rattle.std.specs.Prelude.{◌≡◌, ◌∷◌, ◌↔◌, ◌≢◌, ◌+◌, ◌<◌, Ok}
 use Rattle.kit.specs.Names.{refl, sym, ap, ap₂, ◌∙◌, List, [], inl, inr, ℕ, suc, eqb, arith, le_refl, not-suc-le-zero, eqb-true, eqb-false, eq-eqb, ne_eqb}
 use Rattle.rules.specs.Rules.{Owner, Value, merge}
 use Rattle.rules.specs.declared.table.Owner.TheVariants.{Nobody, Tenant}
-use Rattle.rules.specs.declared.table.Merged.TheVariants.{Both}
 use Rattle.rules.proofs.MergeLaws.{merge_adds, merge_names}
 use Rattle.groups.specs.Sums.{total}
 use Rattle.groups.specs.Groups.{Groups, Deed, created, joined, posted, shift, hung, group_step, replay, Accepts, Accepted}
@@ -34,7 +33,7 @@ values_one : (v : Value) → Values v v.amount (λ n. named_by n v.owner)
 values_one v = record { sum = refl; owned = λ n. naming n v.owner }
 
 -- A merge's.
-values_both : {v w : Value} {p q : ℕ} {f g : ℕ → ℕ} → Values v p f → Values w q g → (x : Value) → merge v w ≡ Both x
+values_both : {v w : Value} {p q : ℕ} {f g : ℕ → ℕ} → Values v p f → Values w q g → (x : Value) → merge v w ≡ Ok x
     → Values x (p + q) (λ n. f n + g n)
 values_both {v} {w} {p} {q} {f} {g} P Q x e =
     record {

@@ -1,8 +1,8 @@
 -- What is known of a journal stays so when an entry is put down and when the waiting ones are made a segment. Assumes nothing.
-use Rattle.std.specs.Prelude.{◌≡◌, ◌∷◌, ◌++◌, ◌+◌, ◌*◌, ◌-◌, ◌/◌, ◌≤◌, ◌<◌}
+use Rattle.std.specs.Prelude.{◌≡◌, ◌∷◌, ◌++◌, ◌+◌, ◌*◌, ◌/◌, ◌≤◌, ◌<◌}
 use Rattle.kit.specs.Names.{refl, sym, ap, ◌∙◌, true, List, [], append_assoc, append-nil, ℕ, suc}
 use Rattle.kit.specs.Names.{length, get_or, set, take, drop, sets, length-append, length-drop, get_or-take, get_or-drop, length-take-le, take-set-le}
-use Rattle.kit.specs.Names.{add-one, ltb, eqb, leb, arith, le_refl, lt-ltb, le-leb, eq-eqb}
+use Rattle.kit.specs.Names.{add-one, arith, le_refl, lt-ltb, le-leb, eq-eqb}
 use lib.Seq.{sets-eq, length-sets, take_at, take-add, take-take}
 use native.Mathlib.Nat.{div-eq_of_eq-mul_right}
 use Rattle.rules.specs.Rules.{WORD}

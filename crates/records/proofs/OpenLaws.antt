@@ -1,22 +1,21 @@
 -- A call opens and closes as many snapshots as what is written of it, on any table whatever. Assumes nothing.
-use Rattle.std.specs.Prelude.{◌≡◌, ◌||◌, ◌∷◌, ◌-◌, ◌≤◌, ◌<◌}
-use Rattle.kit.specs.Names.{refl, sym, ap, ◌∙◌, Bool, true, false, cond, not, List, [], ℕ, length, eqb, ltb, add-one}
+use Rattle.std.specs.Prelude.{◌≡◌, ◌||◌, ◌∷◌, ◌≤◌, ◌<◌, None, Some}
+use Rattle.kit.specs.Names.{refl, sym, ◌∙◌, Bool, true, false, cond, not, List, [], ℕ, length, eqb, ltb, add-one}
 use Rattle.kit.specs.Names.{arith}
 use Rattle.kit.specs.Names.{lt-ltb, eqb-false}
 use Rattle.rules.specs.Rules.{Answer, Answered, Call, Mark, Sought, Value, DONE, KEYS-FULL, LOG-FULL, NO-KEY, NOT-INNERMOST, TOO-DEEP, BROKEN-TABLE}
 use Rattle.rules.specs.Rules.{BAD-STATE, SERIALS-SPENT, MAX-OPEN, MAX-U64, Table, value, owner_of, head_of, range, said, memory_of, full, Plan, Walked}
 use Rattle.rules.specs.Rules.{walk, walk_both, find_on, unioned_on, join_on, post_on, probe_on, probe_key_on, try_probe, innermost, not_innermost, unfit}
 use Rattle.rules.specs.Rules.{stranded, seek, asked, ask}
-use Rattle.rules.specs.Rules.{snapshot, commit, len, since, undoable, Outcome, refuse, carry, sizes_of, bad_table, not_live, new, live, one, two}
+use Rattle.rules.specs.Rules.{snapshot, commit, since, undoable, Outcome, refuse, carry, sizes_of, bad_table, not_live, new, live, one, two}
 use Rattle.rules.specs.Rules.{resting, rollback, call, step}
 use Rattle.rules.specs.declared.call.Call.TheVariants.{New, Len, Find, Unioned, Join, Post, Probe, ProbeKey, TryProbe, Snapshot, Rollback, Commit}
 use Rattle.rules.specs.declared.call.Call.TheVariants.{Keys, Actions, Changes}
-use Rattle.rules.specs.declared.table.Sought.TheVariants.{Missing, Held}
 use Rattle.rules.proofs.StateLaws.{bad_good}
 use Rattle.journal.specs.declared.entry.Entry.{Entry}
 use Rattle.journal.specs.declared.entry.Entry.TheVariants.{EntrySnapshot, EntryRollback, EntryCommit}
 use Rattle.journal.specs.Journal.{orderly, open_in}
-use Rattle.journal.specs.Written.{entry_for, written}
+use Rattle.journal.specs.Written.{entry_for}
 
 -- Both ends of a test; the second may use that it failed.
 unless : {A : Type 0} (P : A → Type 0) (b : Bool) {x y : A} → P x → (b ≡ false → P y) → P (cond b x y)
@@ -76,8 +75,8 @@ module _ (t : Table) where
   same_two a b next = same_refuse (not_live t a || not_live t b) NO-KEY _ (same_carry (walk_both t.rows t.state.count a b next))
 
   same_asked : (reply : Mark → Answer) (found : Sought) → (asked t.state reply found).state.«open» ≡ n
-  same_asked reply Missing = refl
-  same_asked reply (Held m) = unless (λ (r : Answered). r.state.«open» ≡ n) (unfit (head_of t.state) m) refl (λ _. refl)
+  same_asked reply None = refl
+  same_asked reply (Some m) = unless (λ (r : Answered). r.state.«open» ≡ n) (unfit (head_of t.state) m) refl (λ _. refl)
 
   same_ask : (token : ℕ) (reply : Mark → Answer) → Same (resting t (ask t.state token reply))
   same_ask token reply = same_asked reply (seek t.state token n)

@@ -1,8 +1,7 @@
 -- Document 02, Q-1: "Exactly the DONE calls of these six kinds are written, in order." Assumes nothing.
-use Rattle.std.specs.Prelude.{◌≡◌, ◌||◌, ◌&&◌, ◌∷◌, ◌++◌}
+use Rattle.std.specs.Prelude.{◌≡◌, ◌||◌, ◌&&◌, ◌∷◌, ◌++◌, ◌+◌, ◌*◌, ◌≤◌, ◌<◌}
 use Rattle.kit.specs.Names.{refl, sym, ap, ◌∙◌, Bool, true, false, cond, not, List, [], append_assoc, append-nil, ℕ, suc}
-use Rattle.std.specs.Prelude.{◌+◌, ◌*◌, ◌≤◌, ◌<◌}
-use Rattle.kit.specs.Names.{length, sets, eqb, leb, ltb, arith, dec_lt, ℕ_discrete, eq-eqb, ne_eqb, lt-leb, le-ltb, lt-ltb, ltb-false, leb-false}
+use Rattle.kit.specs.Names.{length, sets, eqb, leb, arith, dec_lt, ℕ_discrete, eq-eqb, ne_eqb, lt-leb, le-ltb, lt-ltb, ltb-false, leb-false}
 use Rattle.rules.specs.Rules.{Call, WORD, DONE, BAD-JOURNAL, NO-ROOM, Table, step, refusal}
 use Rattle.rules.specs.declared.call.Call.TheVariants.{New, Len, Find, Unioned, Join, Post, Probe, ProbeKey, TryProbe, Snapshot, Rollback, Commit}
 use Rattle.rules.specs.declared.call.Call.TheVariants.{Keys, Actions, Changes}
@@ -12,7 +11,7 @@ use Rattle.journal.specs.Numbers.{ENTRY-BYTES, TRAILER-BYTES, SEGMENT}
 use Rattle.journal.specs.Entry.{Bytes, AllProper, proper, entry_bytes, entries_at}
 use Rattle.journal.specs.Journal.{journal, orderly, open_in, open_then, may_stand}
 use Rattle.journal.specs.Written.{entry_for, written}
-use Rattle.journal.specs.Record.{known, next_place, mismatched, too_long, Book, book, sealed, put_down, is_written, recorded, written_down, record_step}
+use Rattle.journal.specs.Record.{known, next_place, mismatched, too_long, Book, book, put_down, is_written, recorded, written_down, record_step}
 use Rattle.journal.specs.Record.{record_all, flush}
 use Rattle.journal.proofs.ReadLaws.{both}
 use Rattle.records.specs.Knows.{Knows, Onto}

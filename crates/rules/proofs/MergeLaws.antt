@@ -3,7 +3,8 @@ use Rattle.std.specs.Prelude.{◌≡◌, ◌≢◌, ◌↔◌, ◌⊎◌, ◌+�
 use Rattle.kit.specs.Names.{refl, sym, ap, ap₂, ◌∙◌, subst, Bool, true, false, cond, inl, inr, ℕ, ltb, arith, ℕ_discrete, eq-eqb, ne_eqb, ltb-true, ltb-false}
 use Rattle.rules.specs.Rules.{Owner, Value, Merged, MAX-U64, value, summed, merge_owned, merge}
 use Rattle.rules.specs.declared.table.Owner.TheVariants.{Nobody, Tenant}
-use Rattle.rules.specs.declared.table.Merged.TheVariants.{Clash, TooMuch, Both}
+use Rattle.std.specs.Prelude.{Ok, Err}
+use Rattle.rules.specs.declared.table.MergeError.TheVariants.{Clash, TooMuch}
 use Rattle.rules.proofs.ReadLaws.{Real}
 
 -- ---- what a merge gives
@@ -21,9 +22,9 @@ winner (Tenant a) p = Tenant a
 
 -- What two owners and the sum of their amounts come to. "Amounts add exactly"; TOO_MUCH: "owners merge, sum above 18446744073709551615".
 abbrev pub Judged : Owner → Owner → ℕ → Merged → Type 0
-Judged o p n Clash = Apart o p
-Judged o p n TooMuch = (Apart o p → ⊥) × (MAX-U64 < n)
-Judged o p n (Both x) = (Apart o p → ⊥) × (n ≤ MAX-U64) × (x ≡ value (winner o p) n)
+Judged o p n (Err Clash) = Apart o p
+Judged o p n (Err TooMuch) = (Apart o p → ⊥) × (MAX-U64 < n)
+Judged o p n (Ok x) = (Apart o p → ⊥) × (n ≤ MAX-U64) × (x ≡ value (winner o p) n)
 
 abbrev pub Gives : Value → Value → Merged → Type 0
 Gives v w m = Judged v.owner w.owner (v.amount + w.amount) m
@@ -31,7 +32,7 @@ Gives v w m = Judged v.owner w.owner (v.amount + w.amount) m
 summed_judged : (o p : Owner) (n : ℕ) → (Apart o p → ⊥) → Judged o p n (summed (winner o p) n)
 summed_judged o p n d = go (ltb MAX-U64 n) refl
   where
-    go : (b : Bool) → ltb MAX-U64 n ≡ b → Judged o p n (cond b TooMuch (Both (value (winner o p) n)))
+    go : (b : Bool) → ltb MAX-U64 n ≡ b → Judged o p n (cond b (Err TooMuch) (Ok (value (winner o p) n)))
     go true e = (d, ltb-true MAX-U64 n e)
     go false e = (d, ltb-false MAX-U64 n e, refl)
 
@@ -45,15 +46,15 @@ judged (Tenant a) (Tenant b) n = elim (ℕ_discrete a b) [
 
 -- Two owners and a sum come to one thing alone.
 judged_same : (o p : Owner) (n : ℕ) (m m' : Merged) → Judged o p n m → Judged o p n m' → m ≡ m'
-judged_same o p n Clash Clash j k = refl
-judged_same o p n Clash TooMuch j k = absurd (k.0 j)
-judged_same o p n Clash (Both x) j k = absurd (k.0 j)
-judged_same o p n TooMuch Clash j k = absurd (j.0 k)
-judged_same o p n TooMuch TooMuch j k = refl
-judged_same o p n TooMuch (Both x) j k = absurd (omega (arith, j.1, k.1))
-judged_same o p n (Both x) Clash j k = absurd (j.0 k)
-judged_same o p n (Both x) TooMuch j k = absurd (omega (arith, j.1, k.1))
-judged_same o p n (Both x) (Both y) j k = ap Both (j.2 ∙ sym k.2)
+judged_same o p n (Err Clash) (Err Clash) j k = refl
+judged_same o p n (Err Clash) (Err TooMuch) j k = absurd (k.0 j)
+judged_same o p n (Err Clash) (Ok x) j k = absurd (k.0 j)
+judged_same o p n (Err TooMuch) (Err Clash) j k = absurd (j.0 k)
+judged_same o p n (Err TooMuch) (Err TooMuch) j k = refl
+judged_same o p n (Err TooMuch) (Ok x) j k = absurd (omega (arith, j.1, k.1))
+judged_same o p n (Ok x) (Err Clash) j k = absurd (j.0 k)
+judged_same o p n (Ok x) (Err TooMuch) j k = absurd (omega (arith, j.1, k.1))
+judged_same o p n (Ok x) (Ok y) j k = ap Ok (j.2 ∙ sym k.2)
 
 -- It clashes exactly when both name owners that differ, is TOO_MUCH exactly when owners merge and the sum passes, and else is the sum.
 pub merge_gives : (v w : Value) (m : Merged) → (merge v w ≡ m) ↔ Gives v w m
@@ -75,14 +76,14 @@ winner_names (Tenant a) (Tenant b) d k = (
   λ y. elim y [ inl z ↦ z | inr z ↦ elim (ℕ_discrete a b) [ yes q ↦ ap Tenant q ∙ z | no n ↦ absurd (d n) ] ],
 )
 
-module _ (v w x : Value) (e : merge v w ≡ Both x) where
+module _ (v w x : Value) (e : merge v w ≡ Ok x) where
   -- Its amount is the sum, and it names whom either value names: so two that succeed name the same one, if both name one.
   pub merge_adds : x.amount ≡ v.amount + w.amount
-  merge_adds = ap (λ (y : Value). y.amount) ((merge_gives v w (Both x)).0 e).2
+  merge_adds = ap (λ (y : Value). y.amount) ((merge_gives v w (Ok x)).0 e).2
 
   pub merge_names : (k : ℕ) → (x.owner ≡ Tenant k) ↔ ((v.owner ≡ Tenant k) ⊎ (w.owner ≡ Tenant k))
   merge_names k =
-      let g = (merge_gives v w (Both x)).0 e in
+      let g = (merge_gives v w (Ok x)).0 e in
       rw (ap (λ (y : Value). y.owner) g.2) (winner_names v.owner w.owner g.0 k)
 
   -- No owner of number 0 comes of it.
@@ -104,9 +105,9 @@ winner_flip (Tenant a) Nobody d = refl
 winner_flip (Tenant a) (Tenant b) d = elim (ℕ_discrete a b) [ yes q ↦ ap Tenant q | no n ↦ absurd (d n) ]
 
 judged_flip : (o p : Owner) (n : ℕ) (m : Merged) → Judged o p n m → Judged p o n m
-judged_flip o p n Clash j = apart_flip o p j
-judged_flip o p n TooMuch j = (λ d. j.0 (apart_flip p o d), j.1)
-judged_flip o p n (Both x) j = (λ d. j.0 (apart_flip p o d), j.1, j.2 ∙ ap (λ (q : Owner). value q n) (winner_flip o p j.0))
+judged_flip o p n (Err Clash) j = apart_flip o p j
+judged_flip o p n (Err TooMuch) j = (λ d. j.0 (apart_flip p o d), j.1)
+judged_flip o p n (Ok x) j = (λ d. j.0 (apart_flip p o d), j.1, j.2 ∙ ap (λ (q : Owner). value q n) (winner_flip o p j.0))
 
 pub merge_commutes : (v w : Value) → merge v w ≡ merge w v
 merge_commutes v w =
@@ -126,17 +127,17 @@ apart_last (Tenant a) (Tenant b) Nobody d d' = (λ z. z, d)
 apart_last (Tenant a) (Tenant b) (Tenant c) d d' = (λ z. d (λ e. d' (λ y. z (sym e ∙ y))), d)
 
 -- Where two merges are accepted one after another, so are they the other way, with the same value.
-pub merge_associates : (u v w x y : Value) → merge u v ≡ Both x → merge x w ≡ Both y
-    → (z : Value) × (merge v w ≡ Both z) × (merge u z ≡ Both y)
+pub merge_associates : (u v w x y : Value) → merge u v ≡ Ok x → merge x w ≡ Ok y
+    → (z : Value) × (merge v w ≡ Ok z) × (merge u z ≡ Ok y)
 merge_associates u v w x y e f =
-    let g = (merge_gives u v (Both x)).0 e in
+    let g = (merge_gives u v (Ok x)).0 e in
     let a : (Apart (winner u.owner v.owner) w.owner → ⊥) × (u.amount + v.amount + w.amount ≤ MAX-U64)
     × (y ≡ value (winner (winner u.owner v.owner) w.owner) (u.amount + v.amount + w.amount)) =
-    subst (λ (t : Value). Gives t w (Both y)) g.2 ((merge_gives x w (Both y)).0 f) in
+    subst (λ (t : Value). Gives t w (Ok y)) g.2 ((merge_gives x w (Ok y)).0 f) in
     let d = apart_last u.owner v.owner w.owner g.0 a.0 in
     let z : Value = value (winner v.owner w.owner) (v.amount + w.amount) in
     let s : u.amount + v.amount + w.amount ≡ u.amount + (v.amount + w.amount) = omega arith in (
       z,
-      (merge_gives v w (Both z)).1 (d.0, omega (arith, a.1), refl),
-      (merge_gives u z (Both y)).1 (d.1, omega (arith, a.1), a.2 ∙ ap₂ value (winner_joins u.owner v.owner w.owner) s),
+      (merge_gives v w (Ok z)).1 (d.0, omega (arith, a.1), refl),
+      (merge_gives u z (Ok y)).1 (d.1, omega (arith, a.1), a.2 ∙ ap₂ value (winner_joins u.owner v.owner w.owner) s),
     )

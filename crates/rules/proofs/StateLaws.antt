@@ -1,6 +1,6 @@
 -- What BAD_STATE shuts out, as facts. Assumes nothing.
 use Rattle.std.specs.Prelude.{◌≡◌, ◌∷◌, ◌*◌, ◌%◌, ◌/◌, ◌≤◌}
-use Rattle.kit.specs.Names.{refl, ◌∙◌, Bool, true, false, cond, not, List, [], ℕ, ltb, eqb, ℕ_discrete, le-ltb, eq-eqb, ne_eqb, ltb-false, eqb-true, not-false}
+use Rattle.kit.specs.Names.{refl, ◌∙◌, Bool, true, false, cond, List, [], ℕ, eqb, ℕ_discrete, le-ltb, eq-eqb, ne_eqb, ltb-false, eqb-true, not-false}
 use Rattle.rules.specs.Rules.{Head, MAX-ROWS, MAX-ENTRIES, MAX-OPEN, CROWN, ENTRY, Sizes, any, differ, stray, faults, bad}
 
 -- Every row has its parent, its crown and its amount, and the log ends with an entry; all within the limits.

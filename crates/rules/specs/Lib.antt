@@ -9,6 +9,7 @@ pub mod Write
 pub mod Plan
 pub mod Tokens
 pub mod Refusal
+pub mod Refused
 pub mod Step
 pub mod Contract
 pub mod Rules

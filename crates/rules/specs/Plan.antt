@@ -1,10 +1,10 @@
 -- Document 01, "Rules of the rows": what a call on rows would answer and write, were there room in the log.
-use Rattle.std.specs.Prelude.{◌||◌, ◌∷◌, ◌++◌, ◌+◌}
+use Rattle.std.specs.Prelude.{◌||◌, ◌∷◌, ◌++◌, ◌+◌, Result, Ok, Err}
 use Rattle.kit.specs.Names.{Bool, false, cond, List, [], ℕ, eqb, ltb}
 use Rattle.rules.specs.declared.call.Answer.{Answer}
 use Rattle.rules.specs.declared.table.Value.{Value}
-use Rattle.rules.specs.declared.table.Merged.{Merged}
-use Rattle.rules.specs.declared.table.Merged.TheVariants.{Clash, TooMuch, Both}
+use Rattle.rules.specs.declared.table.MergeError.{MergeError}
+use Rattle.rules.specs.declared.table.MergeError.TheVariants.{Clash, TooMuch}
 use Rattle.rules.specs.Numbers.{DONE, BROKEN-TABLE, OWNER-CLASH, TOO-MUCH, MAX-REDIRECTS, MAX-RANK}
 use Rattle.rules.specs.Lent.{Rows, value_of, row_at}
 use Rattle.rules.specs.Answer.{refusal, stepped, found, probed, held, said}
@@ -52,10 +52,10 @@ abbrev pub walk_both : Rows → ℕ → ℕ → ℕ → (Walked → Walked → P
 walk_both rs count a b next = walk rs count a (λ w. walk w.rows count b (next w))
 
 -- After the walks a merge decides. "A merge that fails logs only its walks' entries".
-abbrev pub settle : List Write → ℕ → (Value → List Write) → Merged → Plan
-settle walked s more Clash = plan (stepped OWNER-CLASH s) walked
-settle walked s more TooMuch = plan (stepped TOO-MUCH s) walked
-settle walked s more (Both v) = plan (stepped DONE s) (walked ++ more v)
+abbrev pub settle : List Write → ℕ → (Value → List Write) → Result Value MergeError → Plan
+settle walked s more (Err Clash) = plan (stepped OWNER-CLASH s) walked
+settle walked s more (Err TooMuch) = plan (stepped TOO-MUCH s) walked
+settle walked s more (Ok v) = plan (stepped DONE s) (walked ++ more v)
 
 -- ---- what each call makes of its walks
 

@@ -1,11 +1,11 @@
 -- All definitions of document 01, and the types that they share with the code, passed on under one name.
+use Rattle.std.specs.Prelude.{Option, Result}
 use Rattle.rules.specs.declared.table.Owner as declared_owner
 use Rattle.rules.specs.declared.table.Value as declared_value
-use Rattle.rules.specs.declared.table.Merged as declared_merged
+use Rattle.rules.specs.declared.table.MergeError as declared_mergeerror
 use Rattle.rules.specs.declared.table.Row as declared_row
 use Rattle.rules.specs.declared.table.UndoLog as declared_undolog
 use Rattle.rules.specs.declared.table.Mark as declared_mark
-use Rattle.rules.specs.declared.table.Sought as declared_sought
 use Rattle.rules.specs.declared.table.Head as declared_head
 use Rattle.rules.specs.declared.table.State as declared_state
 use Rattle.rules.specs.declared.call.Call as declared_call
@@ -34,7 +34,8 @@ pub use Rattle.rules.specs.Refusal.{Outcome, outcome, refused, refuse, carry, Si
 unfoldable pub use Rattle.rules.specs.Refusal.{bad}
 pub use Rattle.rules.specs.Step.{not_live, new, live, one, two, resting, rollback}
 unfoldable pub use Rattle.rules.specs.Step.{call, step}
-pub use Rattle.rules.specs.Contract.{rows_lent, memory_lent, table_lent, outcome_of}
+pub use Rattle.rules.specs.Refused.{code_of}
+pub use Rattle.rules.specs.Contract.{rows_lent, memory_lent, table_lent, rows_in, log_in, memory_in, table_in, rows_seen, log_seen, table_seen, SameParts, outcome_of}
 
 abbrev pub Owner : Type 0
 Owner = declared_owner.Owner
@@ -43,7 +44,7 @@ abbrev pub Value : Type 0
 Value = declared_value.Value
 
 abbrev pub Merged : Type 0
-Merged = declared_merged.Merged
+Merged = Result Value declared_mergeerror.MergeError
 
 abbrev pub Row : Type 0
 Row = declared_row.Row
@@ -55,7 +56,7 @@ abbrev pub Mark : Type 0
 Mark = declared_mark.Mark
 
 abbrev pub Sought : Type 0
-Sought = declared_sought.Sought
+Sought = Option Mark
 
 abbrev pub Head : Type 0
 Head = declared_head.Head

@@ -1,11 +1,9 @@
 -- Document 01, "Rules of the log and the tokens": marks, what is undone, and what lies since a snapshot.
-use Rattle.std.specs.Prelude.{◌&&◌, ◌||◌, ◌∷◌, ◌+◌, ◌-◌, ◌*◌}
+use Rattle.std.specs.Prelude.{◌&&◌, ◌||◌, ◌∷◌, ◌+◌, ◌-◌, ◌*◌, Option, None, Some}
 use Rattle.kit.specs.Names.{Bool, true, false, cond, List, [], ℕ, zero, suc, set, take, drop, eqb, ltb}
 use Rattle.rules.specs.declared.table.UndoLog.{UndoLog}
 use Rattle.rules.specs.declared.table.UndoLog.TheVariants.{NewElem, SetElem, Unknown}
 use Rattle.rules.specs.declared.table.Mark.{Mark}
-use Rattle.rules.specs.declared.table.Sought.{Sought}
-use Rattle.rules.specs.declared.table.Sought.TheVariants.{Missing, Held}
 use Rattle.rules.specs.declared.table.Head.{Head}
 use Rattle.rules.specs.declared.table.State.{State}
 use Rattle.rules.specs.declared.call.Answer.{Answer}
@@ -36,9 +34,9 @@ abbrev pub not_innermost : State → ℕ → Bool
 not_innermost s token = cond (eqb s.«open» 0) true (cond (eqb (innermost s).serial token) false true)
 
 -- NOT_OPEN: "a token not among the open ones". "If a damaged state has a serial twice, the innermost such mark counts."
-unfoldable pub seek : State → ℕ → ℕ → Sought
-seek s token zero = Missing
-seek s token (suc n) = cond (eqb (mark_at s n).serial token) (Held (mark_at s n)) (seek s token n)
+unfoldable pub seek : State → ℕ → ℕ → Option Mark
+seek s token zero = None
+seek s token (suc n) = cond (eqb (mark_at s n).serial token) (Some (mark_at s n)) (seek s token n)
 
 -- BROKEN_TABLE: "the mark used has a log length above used or a key count above the count"
 abbrev pub unfit : Head → Mark → Bool
@@ -67,9 +65,9 @@ commit s token =
     (answered (refusal DONE) (with_head s (committed (head_of s)))))
 
 -- A question about the mark that a token names.
-abbrev pub asked : State → (Mark → Answer) → Sought → Answered
-asked s reply Missing = answered (refusal NOT-OPEN) s
-asked s reply (Held m) = refuse_state (unfit (head_of s) m) BROKEN-TABLE s (answered (reply m) s)
+abbrev pub asked : State → (Mark → Answer) → Option Mark → Answered
+asked s reply None = answered (refusal NOT-OPEN) s
+asked s reply (Some m) = refuse_state (unfit (head_of s) m) BROKEN-TABLE s (answered (reply m) s)
 
 abbrev pub ask : State → ℕ → (Mark → Answer) → Answered
 ask s token reply = asked s reply (seek s token s.«open»)

@@ -20,7 +20,8 @@ pub enum Call {
     Changes(u64),
 }
 
-// What every call answers. What a call has nothing to say of is as in a refusal.
+// What every call answers. What a call has nothing to say of is as in a refusal. All of it is numbers that C reads, the number of refusal
+// and `yes` too; inside the code a refusal is a `Refusal`.
 #[derive(Clone, Copy)]
 pub struct Answer {
     pub no: u32,

@@ -18,39 +18,19 @@ pub const MAX_REDIRECTS: u32 = 16;
 pub const MAX_RANK: u32 = 16;
 
 // The largest amount, and the last serial.
-pub const MAX_U64: u64 = 18446744073709551615;
+pub const MAX_U64: u64 = u64::MAX;
 
-// Document 01, "Numbers of refusal".
+// What is answered where nothing is refused. The refusals are in `refusal`.
 pub const DONE: u32 = 0;
 
-pub const NO_KEY: u32 = 1;
-
-pub const KEYS_FULL: u32 = 2;
-
 pub const LOG_FULL: u32 = 3;
-
-pub const OWNER_CLASH: u32 = 4;
-
-pub const TOO_MUCH: u32 = 5;
-
-pub const NOT_INNERMOST: u32 = 6;
-
-pub const TOO_DEEP: u32 = 7;
-
-pub const BROKEN_TABLE: u32 = 8;
-
-pub const BAD_STATE: u32 = 9;
-
-pub const SERIALS_SPENT: u32 = 10;
-
-pub const NOT_OPEN: u32 = 11;
 
 // Document 02, Q-1.
 pub const BAD_JOURNAL: u32 = 12;
 
 pub const NO_ROOM: u32 = 16;
 
-// The kinds of log entries. Every other number is of no known kind.
+// The kinds of log entries. Every other number is of no known kind: the host lends them, and a view shows any, so they stay numbers.
 pub const KIND_UNKNOWN: u32 = 0;
 
 pub const KIND_NEW: u32 = 1;
