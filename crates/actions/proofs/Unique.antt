@@ -2,7 +2,7 @@
 -- nothing.
 use Rattle.std.specs.Prelude.{◌≡◌}
 use Rattle.kit.specs.Names.{sym, ap, ◌∙◌, ℕ}
-use Rattle.rules.specs.Rules.{UndoLog, Log, entries, entry_at, viewed}
+use Rattle.rules.specs.Rules.{UndoLog, Log, entry_at, viewed}
 use Rattle.parts.specs.declared.entries.Numbers.{Numbers}
 use Rattle.extract.specs.Numbers.{lent_at}
 use Rattle.actions.specs.declared.view.Actions.{Actions}

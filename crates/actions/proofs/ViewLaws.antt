@@ -1,11 +1,10 @@
 -- What a view shows: as many entries as its range has places, each the log's own, `Unknown` past them, and nothing where a call is
 -- refused. Assumes nothing.
-use Rattle.std.specs.Prelude.{◌≡◌, ◌∷◌, ◌+◌, ◌-◌, ◌*◌, ◌<◌, ◌≤◌}
+use Rattle.std.specs.Prelude.{◌≡◌, ◌∷◌, ◌+◌, ◌-◌, ◌*◌, ◌<◌, ◌≤◌, None, Some}
 use Rattle.kit.specs.Names.{refl, ap, ◌∙◌, Bool, true, false, List, [], ℕ, zero, suc, length, get_or, take, drop, length-drop, arith}
 use Rattle.rules.specs.Rules.{Answer, Sought, State, UndoLog, BROKEN-TABLE, ENTRY, Log, Table, entries, entry_at, head_of, refusal, range, answered, refuse_state, seek}
 use Rattle.rules.specs.Rules.{unfit, asked, viewed, actions_view, outcome, sizes_of, bad_table, call, step}
 use Rattle.rules.specs.declared.call.Call.TheVariants.{Actions}
-use Rattle.rules.specs.declared.table.Sought.TheVariants.{Missing, Held}
 use Rattle.rules.specs.declared.table.UndoLog.TheVariants.{Unknown}
 use Rattle.rules.proofs.StateLaws.{bad_good}
 use Rattle.extract.specs.Numbers.{lent_at, action_of}
@@ -87,8 +86,8 @@ below s a n true h = omega arith
 below s a n false h = h
 
 asked_below : (s : State) (n : ℕ) → s.used ≤ n → (w : Sought) → (asked s (λ m. range m.log_len s.used) w).answer.to ≤ n
-asked_below s n h Missing = omega arith
-asked_below s n h (Held m) = below s (range m.log_len s.used) n (unfit (head_of s) m) h
+asked_below s n h None = omega arith
+asked_below s n h (Some m) = below s (range m.log_len s.used) n (unfit (head_of s) m) h
 
 judged_below : (t : Table) (token : ℕ) (b : Bool) → bad_table t ≡ b → (step t (Actions token)).answer.to ≤ entries t.log
 unfolding step call

@@ -15,7 +15,7 @@ pub struct Actions<'a> {
 
 // The part of a log from an entry to an entry, as a view: of the range that `Actions` answers for a token, the entries since its
 // snapshot (`Tokens.actions_view`); of a refusal's, nothing.
-pub fn actions_between<'a>(log: &'a [u32], from: u32, to: u32) -> Actions<'a>
+pub fn actions_between(log: &[u32], from: u32, to: u32) -> Actions<'_>
     ensures { shown result ≡ viewed log.now from to }
 {
     Actions {
@@ -23,37 +23,40 @@ pub fn actions_between<'a>(log: &'a [u32], from: u32, to: u32) -> Actions<'a>
     }
 }
 
-// How many entries a view has.
-pub fn len<'a>(v: Actions<'a>) -> usize
-    ensures { result ≡ count_of v.entry }
-{
-    v.log.len() / ENTRY
+impl Actions<'_> {
+    // How many entries a view has.
+    pub fn len(self) -> usize
+        ensures { result ≡ count_of self.entry }
+    {
+        self.log.len() / ENTRY
+    }
+
+    // Entry `i` of a view, by value: past its end, or of no known kind, it is the enum's own case for that.
+    pub fn entry(self, i: usize) -> UndoLog
+        ensures { result ≡ entry_at (shown self.entry) i }
+    {
+        extract::log::entry_of(self.log, i)
+    }
+
+    // The numbers of entry `i` of a view as they are lent, whatever its kind; 0 past its end.
+    pub fn lent_entry(self, i: usize) -> Numbers
+        ensures { result ≡ lent_at (shown self.entry) i }
+    {
+        extract::log::lent_of(self.log, i)
+    }
 }
 
-// Entry `i` of a view, by value: past its end, or of no known kind, it is the enum's own case for that.
-pub fn entry<'a>(v: Actions<'a>, i: usize) -> UndoLog
-    ensures { result ≡ entry_at (shown v.entry) i }
-{
-    extract::log::entry_of(v.log, i)
-}
-
-// The numbers of entry `i` of a view as they are lent, whatever its kind; 0 past its end.
-pub fn lent_entry<'a>(v: Actions<'a>, i: usize) -> Numbers
-    ensures { result ≡ lent_at (shown v.entry) i }
-{
-    extract::log::lent_of(v.log, i)
-}
-
-// The numbers of entry `i` of a part of a log, read through the view.
-pub fn lent_action_at<'a>(log: &'a [u32], from: u32, to: u32, i: usize) -> Numbers
+// The numbers of entry `i` of a part of a log, read through the view. This and `action_at` stay beside the methods: docs/CONTRACTS.md
+// names them, and the edit view_from_the_start is of `action_at`'s clause.
+pub fn lent_action_at(log: &[u32], from: u32, to: u32, i: usize) -> Numbers
     ensures { result ≡ lent_at (viewed log.now from to) i }
 {
-    lent_entry(actions_between(log, from, to), i)
+    actions_between(log, from, to).lent_entry(i)
 }
 
 // That entry by value.
-pub fn action_at<'a>(log: &'a [u32], from: u32, to: u32, i: usize) -> UndoLog
+pub fn action_at(log: &[u32], from: u32, to: u32, i: usize) -> UndoLog
     ensures { result ≡ entry_at (viewed log.now from to) i }
 {
-    extract::log::action_of(lent_action_at(log, from, to, i))
+    actions_between(log, from, to).entry(i)
 }

@@ -9,7 +9,7 @@ use Rattle.rules.specs.Rules.{post_on, probe_on, probe_key_on, try_probe, innerm
 use Rattle.rules.specs.Rules.{undoable, reversed, undo, Outcome, refuse, carry, Sizes, sizes_of, stray, bad_table, not_live, new, live, one, two, resting}
 use Rattle.rules.specs.Rules.{rollback, call, step, outcome, refusal, BAD-STATE}
 use Rattle.rules.specs.declared.call.Call.TheVariants.{New, Len, Find, Unioned, Join, Post, Probe, ProbeKey, TryProbe, Snapshot, Rollback, Commit, Keys, Actions, Changes}
-use Rattle.rules.specs.declared.table.Sought.TheVariants.{Missing, Held}
+use Rattle.std.specs.Prelude.{None, Some}
 use Rattle.rules.specs.declared.table.UndoLog.TheVariants.{NewElem, SetElem, Unknown}
 use Rattle.rules.proofs.StateLaws.{Roomy, roomy_bad, good_roomy, bad_good}
 
@@ -172,8 +172,8 @@ module _ (t : Table) (R : Within t t.state) where
       }))
 
   within_asked : (reply : Mark → Answer) (found : Sought) → Within t (asked t.state reply found).state
-  within_asked reply Missing = R
-  within_asked reply (Held m) = within_refuse (unfit (head_of t.state) m) BROKEN-TABLE _ (λ _. R)
+  within_asked reply None = R
+  within_asked reply (Some m) = within_refuse (unfit (head_of t.state) m) BROKEN-TABLE _ (λ _. R)
 
   kept_ask : (token : ℕ) (reply : Mark → Answer) → Kept t (resting t (ask t.state token reply)).table
   kept_ask token reply = kept_resting (ask t.state token reply) (within_asked reply (seek t.state token t.state.«open»))

@@ -1,7 +1,7 @@
 -- What is decided of a call is the rules' step: refusals, verdicts, new keys, rollbacks. Assumes nothing.
-use Rattle.std.specs.Prelude.{◌≡◌, ◌+◌}
+use Rattle.std.specs.Prelude.{◌≡◌, ◌+◌, Ok, Err}
 use Rattle.kit.specs.Names.{refl, ap, sym, ◌∙◌, true, false, List, [], ℕ, length, arith}
-use Rattle.rules.specs.Rules.{Answer, Answered, Call, Head, Mark, Sought, State, BAD-STATE, Rows, Log, table, entries, head, refusal, Write, memory}
+use Rattle.rules.specs.Rules.{Answer, Answered, Call, Head, Mark, Sought, State, BAD-STATE, Rows, Log, table, entries, head, refusal, code_of, Write, memory}
 use Rattle.rules.specs.Rules.{with_memory, puts, outcome, sizes_of, bad, resting, call, step}
 use Rattle.undo_log.specs.declared.tokens.HeadCall.{HeadCall}
 use Rattle.undo_log.specs.declared.tokens.HeadCall.TheVariants as head_call_case
@@ -9,9 +9,7 @@ use Rattle.undo_log.specs.declared.tokens.Settled.{Settled}
 use Rattle.undo_log.specs.Settled.{settled, state_with}
 use Rattle.undo_log.specs.HeadCalls.{head_call, on_state, on_head}
 use Rattle.undo_log.proofs.HeadLaws.{after_moved, after_kept, head_call_lem}
-use Rattle.plans.specs.declared.verdict.Verdict.{Verdict}
-use Rattle.plans.specs.declared.verdict.Verdict.TheVariants.{Refused, Planned}
-use Rattle.plans.specs.Plans.{finish_of, Inside}
+use Rattle.plans.specs.Plans.{Verdict, finish_of, Inside}
 use Rattle.plans.proofs.PlanLaws.{and_then_lem}
 use Rattle.decisions.specs.End.{still_todo, verdict_todo}
 use Rattle.decisions.specs.Decided.{carried_out, Carried, Does}
@@ -43,8 +41,10 @@ module _ (rs : Rows) (l : Log) (h : Head) (last : ℕ) (m : Sought) (c : Call) w
     pub verdict_does : (v : Verdict) → Fits h.«open» h.used (entries l) 0 v → Inside h.count v
         → ((ms : List Mark) → carried_out (table rs l (state_with h last ms)) [] v ≡ step (table rs l (state_with h last ms)) c)
         → Does rs l h last m c (verdict_todo h v)
-    verdict_does (Refused n) fit i e = answers (refusal n) e
-    verdict_does (Planned a f) fit i e =
+    verdict_does (Err why) fit i e = answers (refusal (code_of why)) e
+    verdict_does (Ok p) fit i e =
+        let a = p.answer in
+        let f = p.finish in
         let ws = finish_of f in
         let none : 0 + length ws ≡ length ws = omega arith in
         let before = memory rs l h.«open» h.used in

@@ -8,8 +8,7 @@ use Rattle.plans.specs.declared.verdict.OneCall.{OneCall}
 use Rattle.plans.specs.declared.verdict.OneCall.TheVariants.{Find, Probe, ProbeKey, Post}
 use Rattle.plans.specs.declared.verdict.TwoCall.{TwoCall}
 use Rattle.plans.specs.declared.verdict.TwoCall.TheVariants.{Unioned, Join}
-use Rattle.plans.specs.declared.verdict.Verdict.{Verdict}
-use Rattle.plans.specs.Plans.{plan_of, walked_to, one_on, two_on, MadeOfOne, MadeOfTwo}
+use Rattle.plans.specs.Plans.{Verdict, plan_of, walked_to, one_on, two_on, MadeOfOne, MadeOfTwo}
 use Rattle.decisions.specs.Sorted.{one_call, two_call}
 
 -- ---- the calls that walk

@@ -1,15 +1,13 @@
 -- What is said of a call before and after it is written, for every state with the head, the last serial and the mark in question.
-use Rattle.std.specs.Prelude.{◌≡◌, ◌++◌, ◌+◌}
-use Rattle.kit.specs.Names.{false, List, ℕ, length}
-use Rattle.rules.specs.Rules.{Call, Head, Mark, Sought, State, Rows, Log, Table, table, Write, memory, memory_of, with_memory, puts, Outcome, outcome, refused}
+use Rattle.std.specs.Prelude.{◌≡◌, ◌++◌, ◌+◌, Result, Ok, Err}
+use Rattle.kit.specs.Names.{false, List, [], ℕ, length}
+use Rattle.rules.specs.Rules.{Call, Head, Mark, Sought, State, Rows, Log, Table, table, Write, memory, memory_of, with_memory, puts, Outcome, outcome, refused, code_of}
 use Rattle.rules.specs.Rules.{sizes_of, bad, step}
 use Rattle.undo_log.specs.declared.tokens.Settled.{Settled}
 use Rattle.undo_log.specs.Settled.{state_with, state_after, mark_for}
 use Rattle.roots.specs.Trail.{walk_of, compressed, Sound}
-use Rattle.plans.specs.declared.verdict.Verdict.{Verdict}
-use Rattle.plans.specs.declared.verdict.Verdict.TheVariants.{Refused, Planned}
-use Rattle.plans.specs.declared.verdict.Finish.{Finish}
-use Rattle.plans.specs.Plans.{finish_of, and_then, InsideEnd}
+use Rattle.rules.specs.declared.refusal.Refusal.{Refusal}
+use Rattle.plans.specs.Plans.{Verdict, finish_of, and_then, InsideEnd}
 use Rattle.parts.specs.Ready.{Ready}
 use Rattle.decisions.specs.declared.todo.Todo.{Todo}
 use Rattle.decisions.specs.declared.decision.Decision.{Decision}
@@ -50,22 +48,21 @@ DecidedAnyhow rs l h c d = (last : ℕ) (m : Sought) → Decided rs l h last m c
 
 -- What a verdict that fits comes to.
 abbrev pub carried_out : Table → List Write → Verdict → Outcome
-carried_out t ws (Refused n) = refused n t
-carried_out t ws (Planned a f) = outcome a (with_memory t (puts (memory_of t) (and_then ws f)))
+carried_out t ws (Err why) = refused (code_of why) t
+carried_out t ws (Ok p) = outcome p.answer (with_memory t (puts (memory_of t) (and_then ws p.finish)))
 
 -- It can be carried out, with room for all its entries.
-pub record Doable (rs : Rows) (l : Log) (h : Head) (p : FarPlan) (f : Finish) : Type 0 where
+pub record Doable (rs : Rows) (l : Log) (h : Head) (p : FarPlan) : Type 0 where
   pub ready
-      : Ready h.count (length (walk_of p.first) + (length (walk_of p.second) + length (finish_of f))) (memory rs l h.«open» h.used)
+      : Ready h.count (length (walk_of p.first) + (length (walk_of p.second) + length (finish_of p.plan.finish))) (memory rs l h.«open» h.used)
   pub first : Sound rs.parents h.count p.first
   pub second : Sound (compressed p.first rs.parents) h.count p.second
-  pub inside : InsideEnd h.count f
+  pub inside : InsideEnd h.count p.plan.finish
 
-abbrev pub DoableIf : Rows → Log → Head → FarPlan → Verdict → Type 0
-DoableIf rs l h p (Refused n) = Unit {0}
-DoableIf rs l h p (Planned a f) = Doable rs l h p f
+-- The call comes to it: the plan carried out, and the walks before it, is the rules' step.
+abbrev pub FarIs : Rows → Log → Head → Call → List Write → Verdict → Type 0
+FarIs rs l h c ws v = (last : ℕ) (ms : List Mark) → let t = table rs l (state_with h last ms) in carried_out t ws v ≡ step t c
 
-pub record FarPlanned (rs : Rows) (l : Log) (h : Head) (c : Call) (p : FarPlan) : Type 0 where
-  pub is : (last : ℕ) (ms : List Mark)
-      → let t = table rs l (state_with h last ms) in carried_out t (walk_of p.first ++ walk_of p.second) p.verdict ≡ step t c
-  pub doable : DoableIf rs l h p p.verdict
+abbrev pub FarPlanned : Rows → Log → Head → Call → Result FarPlan Refusal → Type 0
+FarPlanned rs l h c (Err why) = FarIs rs l h c [] (Err why)
+FarPlanned rs l h c (Ok p) = FarIs rs l h c (walk_of p.first ++ walk_of p.second) (Ok p.plan) × Doable rs l h p

@@ -1,14 +1,12 @@
 -- A decided call: what is written of it, what that leaves, and what it asks of the parts.
-use Rattle.std.specs.Prelude.{◌-◌, ◌≤◌}
+use Rattle.std.specs.Prelude.{◌-◌, ◌≤◌, Ok, Err}
 use Rattle.kit.specs.Names.{ℕ, length}
-use Rattle.rules.specs.Rules.{Head, Rows, Log, row, head, refusal, Memory, memory, push, puts, newest_first, undo}
+use Rattle.rules.specs.Rules.{Head, Rows, Log, row, head, refusal, code_of, Memory, memory, push, puts, newest_first, undo}
 use Rattle.parts.specs.Bounds.{InRows, Loggable}
 use Rattle.undo_log.specs.declared.tokens.Settled.{Settled}
 use Rattle.undo_log.specs.Settled.{settled}
 use Rattle.rollback.specs.Since.{Logged, Reversible}
-use Rattle.plans.specs.declared.verdict.Verdict.{Verdict}
-use Rattle.plans.specs.declared.verdict.Verdict.TheVariants.{Refused, Planned}
-use Rattle.plans.specs.Plans.{finish_of, InsideEnd}
+use Rattle.plans.specs.Plans.{Verdict, finish_of, InsideEnd}
 use Rattle.parts.specs.Ready.{Ready}
 use Rattle.decisions.specs.declared.todo.End.{End}
 use Rattle.decisions.specs.declared.todo.End.TheVariants as end
@@ -20,10 +18,10 @@ todo s e = record { settled = s; end = e }
 abbrev pub still_todo : Settled → Todo
 still_todo s = todo s end.Nothing
 
--- A verdict on a call whose walks rewrite nothing.
+-- What a call comes to whose walks rewrite nothing.
 abbrev pub verdict_todo : Head → Verdict → Todo
-verdict_todo h (Refused n) = still_todo (settled (refusal n) h)
-verdict_todo h (Planned a f) = todo (settled a h) (end.Rows f)
+verdict_todo h (Err why) = still_todo (settled (refusal (code_of why)) h)
+verdict_todo h (Ok p) = todo (settled p.answer h) (end.Rows p.finish)
 
 -- ---- what is left
 

@@ -1,6 +1,6 @@
 use crate::sorted::WalkCall;
 use crate::todo::Todo;
-use plans::verdict::Verdict;
+use plans::verdict::Planned;
 use roots::path::Trail;
 
 // A call is decided, or has a long walk.
@@ -10,10 +10,10 @@ pub enum Decision {
     Far(WalkCall),
 }
 
-// A verdict, and the walks that it rewrites.
+// The plan of a call with a long walk, and the walks that it rewrites.
 #[derive(Drop)]
 pub struct FarPlan {
-    pub verdict: Verdict,
+    pub plan: Planned,
     pub first: Trail,
     pub second: Trail,
 }

@@ -2,5 +2,7 @@
 #![tactic(auto)]
 
 pub mod decision;
+pub mod good;
+pub mod room;
 pub mod sorted;
 pub mod todo;

@@ -1,10 +1,10 @@
 ghost use Rattle.std.specs.Prelude.{◌≡◌};
-ghost use Rattle.rules.specs.Rules.{refusal, row, head};
+ghost use Rattle.rules.specs.Rules.{code_of, refusal, row, head};
 ghost use Rattle.undo_log.specs.Settled.{settled};
 ghost use Rattle.decisions.specs.End.{still_todo, verdict_todo};
 
-use makers::answer::refusal;
-use plans::verdict::{Finish, Verdict};
+use plans::verdict::{Finish, Planned};
+use rules::refusal::Refusal;
 use rules::table::{Head, Row, Value};
 use undo_log::tokens::Settled;
 
@@ -31,29 +31,32 @@ pub struct Todo {
 pub fn still(settled: Settled) -> Todo
     ensures { result ≡ still_todo settled }
 {
-    let end = End::Nothing;
-    Todo { settled, end }
+    Todo {
+        settled,
+        end: End::Nothing,
+    }
 }
 
 // A refusal leaves the head as it is.
-pub fn refused(no: u32, head: Head) -> Todo
-    ensures { result ≡ still_todo (settled (refusal no) head) }
+pub fn refused(why: Refusal, head: Head) -> Todo
+    ensures { result ≡ still_todo (settled (refusal (code_of why)) head) }
 {
-    let answer = refusal(no);
-    still(Settled { answer, head })
+    still(undo_log::tokens::refused(why, head))
 }
 
-// A verdict on a call whose walks rewrite nothing.
-pub fn from_verdict(verdict: Verdict, head: Head) -> Todo
+// What a call comes to whose walks rewrite nothing.
+pub fn from_verdict(verdict: Result<Planned, Refusal>, head: Head) -> Todo
     ensures { result ≡ verdict_todo head verdict }
 {
     match verdict {
-        Verdict::Refused(no) => refused(no, head),
-        Verdict::Planned(answer, finish) => {
-            let settled = Settled { answer, head };
-            let end = End::Rows(finish);
-            Todo { settled, end }
-        }
+        Err(why) => refused(why, head),
+        Ok(plan) => Todo {
+            settled: Settled {
+                answer: plan.answer,
+                head,
+            },
+            end: End::Rows(plan.finish),
+        },
     }
 }
 
@@ -61,25 +64,23 @@ pub fn from_verdict(verdict: Verdict, head: Head) -> Todo
 pub fn with_used(before: Settled, used: u32) -> Settled
     ensures { result ≡ settled before.answer (head before.head.count used before.head.«open») }
 {
-    let answer = before.answer;
-    let old = before.head;
-    let head = Head {
-        count: old.count,
-        used,
-        open: old.open,
-    };
-    Settled { answer, head }
+    Settled {
+        head: Head {
+            used,
+            ..before.head
+        },
+        ..before
+    }
 }
 
 // A new key is a root of rank 0.
 pub fn new_row(key: u32, value: Value) -> Row
     ensures { result ≡ row key 0 value }
 {
-    let owner = value.owner;
     Row {
         parent: key,
         rank: 0,
-        owner,
+        owner: value.owner,
         amount: value.amount,
     }
 }

@@ -5,7 +5,7 @@ use Rattle.rules.specs.Rules.{Answer, Head, Mark, Owner, Row, Sought, State, Val
 use Rattle.rules.specs.Rules.{entries, owner_of, value, row, row_at, value_of, head, refusal, found, held, said, memory, push, puts, since, undo, rolled_back, outcome}
 use Rattle.rules.specs.Rules.{refused, sizes_of, bad, call, step}
 use Rattle.rules.specs.declared.call.Call.TheVariants.{New, TryProbe, Rollback}
-use Rattle.rules.specs.declared.table.Sought.TheVariants.{Missing, Held}
+use Rattle.std.specs.Prelude.{None, Some}
 use Rattle.parts.proofs.BoundLaws.{in_rows}
 use Rattle.undo_log.specs.Settled.{settled, state_with, latest, mark_for}
 use Rattle.undo_log.proofs.HeadLaws.{after_moved, after_kept}
@@ -88,21 +88,21 @@ module _ (rs : Rows) (l : Log) (h : Head) (last token : ℕ) (g : bad (sizes_of 
     tt,
   )
 
-  pub back_missing : Does rs l h last Missing (Rollback token) (still_todo (settled (refusal NOT-INNERMOST) h))
-  back_missing = back_still Missing NOT-INNERMOST (λ ms q. rollback_missing rs l h last ms token g q)
+  pub back_missing : Does rs l h last None (Rollback token) (still_todo (settled (refusal NOT-INNERMOST) h))
+  back_missing = back_still None NOT-INNERMOST (λ ms q. rollback_missing rs l h last ms token g q)
 
   module _ (m : Mark) where
-    pub back_broken : broken h m l ≡ true → Does rs l h last (Held m) (Rollback token) (still_todo (settled (refusal BROKEN-TABLE) h))
-    back_broken b = back_still (Held m) BROKEN-TABLE (λ ms q. rollback_broken rs l h last ms token g m q b)
+    pub back_broken : broken h m l ≡ true → Does rs l h last (Some m) (Rollback token) (still_todo (settled (refusal BROKEN-TABLE) h))
+    back_broken b = back_still (Some m) BROKEN-TABLE (λ ms q. rollback_broken rs l h last ms token g m q b)
 
     pub back_done : broken h m l ≡ false → (a : Answer) → a ≡ refusal DONE → (after : Head) → after ≡ rolled_back h m
-        → Does rs l h last (Held m) (Rollback token) (todo (settled a after) (Undo h.used))
+        → Does rs l h last (Some m) (Rollback token) (todo (settled a after) (Undo h.used))
     back_done b a e after q =
         rw (e, q) (
           λ ms p.
               let s = state_with h last ms in
               ap (λ (x : State). outcome (refusal DONE) (table (undo rs (since l h m)) l x))
               (after_moved s (refusal DONE) (rolled_back h m) (omega arith))
-              ∙ sym (rollback_done rs l h last ms token g m (named (Held m) ms p) b),
+              ∙ sym (rollback_done rs l h last ms token g m (named (Some m) ms p) b),
           (in_order rs l h g m b, all_logged rs l h g, reversible rs l h g m b),
         )

@@ -1,4 +1,4 @@
-// Calls that reach rows without a walk, decided over `&` parts: a new key, a value without a walk.
+// Calls that reach rows without a walk, decided over a good table: a new key, a value without a walk.
 #![tactic(auto)]
 
 pub mod calls;

@@ -1,158 +1,93 @@
 // Calls with a walk of two redirects or more: traced, and judged before anything is written.
-ghost use Rattle.std.specs.Prelude.{◌≡◌, false, ◌-◌, ◌<◌};
-ghost use Rattle.rules.specs.Rules.{rows_lent, sizes_of, bad};
+ghost use Rattle.std.specs.Prelude.{◌≡◌, ◌-◌, ◌<◌};
+ghost use Rattle.rules.specs.Rules.{rows_seen, log_seen};
 ghost use Rattle.roots.specs.Trail.{Idle};
 ghost use Rattle.decisions.specs.Sorted.{walk_call, LiveKeys};
 ghost use Rattle.decisions.specs.Decided.{FarPlanned};
 ghost use Rattle.decisions.specs.declared.sorted.WalkCall.TheVariants.{One, Two};
 
 use decisions::decision::FarPlan;
+use decisions::good::GoodTable;
 use decisions::sorted::WalkCall;
 use meeting::after::trace_after;
 use one_walk::plan::one_plan;
-use plans::room::fitted;
-use plans::verdict::{OneCall, TwoCall, Verdict};
+use plans::verdict::{OneCall, TwoCall};
 use roots::path::{Trail, trace};
-use rules::numbers::{BROKEN_TABLE, ENTRY};
-use rules::table::Head;
+use rules::refusal::Refusal;
 use two_walks::plan::two_plan;
 
-// A trail that leads nowhere.
+// A trail that leads nowhere, for the second walk of a call that walks once. No `Option`: a trail of no steps is carried out as any
+// other is, and rewrites nothing.
 fn idle() -> Trail
     ensures { Idle result }
 {
     Trail {
-        found: false,
         steps: 0,
         nodes: [0u32; 17],
     }
 }
 
-// The rows that a walk rewrites: all that it passed but the last.
-fn rewrites(steps: usize) -> usize
-    ensures { result ≡ steps - 1 }
+#[tactic(auto, using(decisions::proofs::GoodLaws::table_parents))]
+fn far_one(table: GoodTable<'_>, key: u32, call: OneCall) -> Result<FarPlan, Refusal>
+    requires { key < table.head.count }
+    ensures { let t = table.entry in
+        FarPlanned (rows_seen t.seen) (log_seen t.seen) t.head (walk_call (One key call)) result }
 {
-    if steps == 0 {
-        return 0;
-    }
-    steps - 1
-}
-
-fn far_one(
-    parents: &[u32],
-    crowns: &[u32],
-    amounts: &[u64],
-    log: &[u32],
-    head: Head,
-    key: u32,
-    call: OneCall,
-) -> FarPlan
-    requires head_value { bad (sizes_of (rows_lent parents.now crowns.now amounts.now) log.now) head ≡ false }
-    requires key_lt_count { key < head.count }
-    ensures { let rs = rows_lent parents.now crowns.now amounts.now in
-        FarPlanned rs log.now head (walk_call (One key call)) result }
-{
-    let first = trace(parents, head.count, key);
-    let second = idle();
-    if !first.found {
-        return FarPlan {
-            verdict: Verdict::Refused(BROKEN_TABLE),
-            first,
-            second,
-        };
-    }
+    let GoodTable { seen, head } = table;
+    let Some(first) = trace(seen.parents, head.count, key) else {
+        return Err(Refusal::BrokenTable);
+    };
     let steps = first.steps;
-    let root = first.nodes[steps];
-    let plan = one_plan(parents, crowns, amounts, call, root, steps as u32);
-    let verdict = fitted(
+    let plan = one_plan(seen, call, first.nodes[steps], steps as u32);
+    // All that a walk passed but the last is rewritten.
+    let plan = table.fitted(Ok(plan), steps.saturating_sub(1))?;
+    Ok(FarPlan {
         plan,
-        head.open,
-        head.used,
-        log.len() / ENTRY,
-        rewrites(steps),
-    );
-    FarPlan {
-        verdict,
         first,
-        second,
-    }
+        second: idle(),
+    })
 }
 
-fn far_two(
-    parents: &[u32],
-    crowns: &[u32],
-    amounts: &[u64],
-    log: &[u32],
-    head: Head,
-    a: u32,
-    b: u32,
-    call: TwoCall,
-) -> FarPlan
-    requires head_value { bad (sizes_of (rows_lent parents.now crowns.now amounts.now) log.now) head ≡ false }
-    requires a_lt_count { a < head.count }
-    requires b_lt_count { b < head.count }
-    ensures { let rs = rows_lent parents.now crowns.now amounts.now in
-        FarPlanned rs log.now head (walk_call (Two a call b)) result }
+#[tactic(auto, using(decisions::proofs::GoodLaws::table_parents))]
+fn far_two(table: GoodTable<'_>, a: u32, b: u32, call: TwoCall) -> Result<FarPlan, Refusal>
+    requires a_lt_count { a < table.head.count }
+    requires b_lt_count { b < table.head.count }
+    ensures { let t = table.entry in
+        FarPlanned (rows_seen t.seen) (log_seen t.seen) t.head (walk_call (Two a call b)) result }
 {
-    let first = trace(parents, head.count, a);
-    if !first.found {
-        return FarPlan {
-            verdict: Verdict::Refused(BROKEN_TABLE),
-            first,
-            second: idle(),
-        };
-    }
-    let second = trace_after(parents, head.count, a, first, b);
-    if !second.found {
-        return FarPlan {
-            verdict: Verdict::Refused(BROKEN_TABLE),
-            first,
-            second,
-        };
-    }
+    let GoodTable { seen, head } = table;
+    let Some(first) = trace(seen.parents, head.count, a) else {
+        return Err(Refusal::BrokenTable);
+    };
+    let Some(second) = trace_after(seen.parents, head.count, a, first, b) else {
+        return Err(Refusal::BrokenTable);
+    };
     let from = first.steps;
     let to = second.steps;
-    let root_a = first.nodes[from];
-    let root_b = second.nodes[to];
-    let plan = two_plan(
-        parents,
-        crowns,
-        amounts,
+    let verdict = two_plan(
+        seen,
         call,
-        root_a,
-        root_b,
+        first.nodes[from],
+        second.nodes[to],
         (from + to) as u32,
     );
-    let verdict = fitted(
+    let walked = from.saturating_sub(1) + to.saturating_sub(1);
+    let plan = table.fitted(verdict, walked)?;
+    Ok(FarPlan {
         plan,
-        head.open,
-        head.used,
-        log.len() / ENTRY,
-        rewrites(from) + rewrites(to),
-    );
-    FarPlan {
-        verdict,
         first,
         second,
-    }
+    })
 }
 
 // Any call on live keys, planned whatever its walks.
-pub fn far_plan(
-    parents: &[u32],
-    crowns: &[u32],
-    amounts: &[u64],
-    log: &[u32],
-    head: Head,
-    call: WalkCall,
-) -> FarPlan
-    requires head_value { bad (sizes_of (rows_lent parents.now crowns.now amounts.now) log.now) head ≡ false }
-    requires live_keys { LiveKeys head.count call }
-    ensures { let rs = rows_lent parents.now crowns.now amounts.now in
-        FarPlanned rs log.now head (walk_call call) result }
+pub fn far_plan(table: GoodTable<'_>, call: WalkCall) -> Result<FarPlan, Refusal>
+    requires { LiveKeys table.head.count call }
+    ensures { let t = table.entry in
+        FarPlanned (rows_seen t.seen) (log_seen t.seen) t.head (walk_call call) result }
 {
     match call {
-        WalkCall::One(key, what) => far_one(parents, crowns, amounts, log, head, key, what),
-        WalkCall::Two(a, what, b) => far_two(parents, crowns, amounts, log, head, a, b, what),
+        WalkCall::One(key, what) => far_one(table, key, what),
+        WalkCall::Two(a, what, b) => far_two(table, a, b, what),
     }
 }

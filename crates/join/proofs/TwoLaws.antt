@@ -1,29 +1,30 @@
 -- Two walks: what the code makes of where they lead is what the rules make of it. Assumes nothing.
 use Rattle.std.specs.Prelude.{◌≡◌, ◌++◌, ◌≤◌, ◌<◌}
 use Rattle.kit.specs.Names.{ap, ap₂, sym, ◌∙◌, ℕ, eqb, lt-ltb, le-ltb, eq-eqb, ne_eqb}
-use Rattle.rules.specs.Rules.{Answer, Row, Value, Merged, DONE, BROKEN-TABLE, OWNER-CLASH, TOO-MUCH, MAX-RANK, Rows, row_at, value_of, said, stepped, merge, plan}
-use Rattle.rules.specs.declared.table.Merged.TheVariants.{Clash, TooMuch, Both}
+use Rattle.rules.specs.Rules.{Answer, Row, Value, Merged, DONE, MAX-RANK, Rows, row_at, value_of, said, stepped, merge, plan}
+use Rattle.std.specs.Prelude.{Ok, Err}
+use Rattle.rules.specs.declared.refusal.Refusal.TheVariants.{BrokenTable}
+use Rattle.rules.specs.declared.table.MergeError.{MergeError}
+use Rattle.rules.specs.declared.table.MergeError.TheVariants.{Clash, TooMuch}
 use Rattle.plans.specs.declared.verdict.Finish.{Finish}
-use Rattle.plans.specs.declared.verdict.Finish.TheVariants.{Nothing}
-use Rattle.plans.specs.declared.verdict.Verdict.TheVariants.{Refused, Planned}
 use Rattle.plans.specs.declared.verdict.TwoCall.TheVariants.{Unioned, Join}
-use Rattle.plans.specs.Plans.{finish_of, MadeOfTwo, Joined, united}
+use Rattle.plans.specs.Plans.{planned, still, unmerged, finish_of, MadeOfTwo, Joined, united}
 use Rattle.plans.proofs.PlanLaws.{and_then_lem}
 
 module _ (rs : Rows) (a b s : ℕ) (x : Answer) where
-  pub unioned_is : x ≡ said (eqb a b) s → MadeOfTwo rs Unioned a b s (Planned x Nothing)
+  pub unioned_is : x ≡ said (eqb a b) s → MadeOfTwo rs Unioned a b s (Ok (still x))
   unioned_is h ps ps' ws ws' sa sb q = rw (h, q)
 
-  pub join_same : a ≡ b → x ≡ stepped DONE s → MadeOfTwo rs Join a b s (Planned x Nothing)
+  pub join_same : a ≡ b → x ≡ stepped DONE s → MadeOfTwo rs Join a b s (Ok (still x))
   join_same e h ps ps' ws ws' sa sb q = rw (h, eq-eqb a b e, q)
 
 module _ (a : ℕ) (row-a : Row) (b : ℕ) (row-b : Row) (s : ℕ) where
-  pub high_a : MAX-RANK < row-a.rank → Joined a row-a b row-b s (Refused BROKEN-TABLE)
+  pub high_a : MAX-RANK < row-a.rank → Joined a row-a b row-b s (Err BrokenTable)
   high_a t d rs ka kb ps ps' ws ws' sa sb q =
       rw (ne_eqb a b d, ← ap (λ (r : Row). r.rank) ka, lt-ltb MAX-RANK row-a.rank t)
 
   module _ (la : row-a.rank ≤ MAX-RANK) where
-    pub high_b : MAX-RANK < row-b.rank → Joined a row-a b row-b s (Refused BROKEN-TABLE)
+    pub high_b : MAX-RANK < row-b.rank → Joined a row-a b row-b s (Err BrokenTable)
     high_b t d rs ka kb ps ps' ws ws' sa sb q =
         rw (
           ne_eqb a b d,
@@ -33,17 +34,26 @@ module _ (a : ℕ) (row-a : Row) (b : ℕ) (row-b : Row) (s : ℕ) where
           lt-ltb MAX-RANK row-b.rank t,
         )
 
-    module _ (lb : row-b.rank ≤ MAX-RANK) (x : Answer) where
+    module _ (lb : row-b.rank ≤ MAX-RANK) where
       merged_at : (y : Merged) → merge (value_of row-a) (value_of row-b) ≡ y → (rs : Rows) → row-a ≡ row_at rs a → row-b ≡ row_at rs b
           → merge (value_of (row_at rs a)) (value_of (row_at rs b)) ≡ y
       merged_at y m rs ka kb = ap₂ (λ (r t : Row). merge (value_of r) (value_of t)) (sym ka) (sym kb) ∙ m
 
-      pub join_clash : merge (value_of row-a) (value_of row-b) ≡ Clash → x ≡ stepped OWNER-CLASH s → Joined a row-a b row-b s (Planned x Nothing)
-      join_clash m h d rs ka kb ps ps' ws ws' sa sb q =
+      pub join_failed : (why : MergeError) → merge (value_of row-a) (value_of row-b) ≡ Err why → Joined a row-a b row-b s (Ok (unmerged why s))
+      join_failed Clash m d rs ka kb ps ps' ws ws' sa sb q =
           rw (
-            h,
             ne_eqb a b d,
-            merged_at Clash m rs ka kb,
+            merged_at (Err Clash) m rs ka kb,
+            ← ap (λ (r : Row). r.rank) ka,
+            ← ap (λ (r : Row). r.rank) kb,
+            le-ltb MAX-RANK row-a.rank la,
+            le-ltb MAX-RANK row-b.rank lb,
+            q,
+          )
+      join_failed TooMuch m d rs ka kb ps ps' ws ws' sa sb q =
+          rw (
+            ne_eqb a b d,
+            merged_at (Err TooMuch) m rs ka kb,
             ← ap (λ (r : Row). r.rank) ka,
             ← ap (λ (r : Row). r.rank) kb,
             le-ltb MAX-RANK row-a.rank la,
@@ -51,28 +61,15 @@ module _ (a : ℕ) (row-a : Row) (b : ℕ) (row-b : Row) (s : ℕ) where
             q,
           )
 
-      pub join_over : merge (value_of row-a) (value_of row-b) ≡ TooMuch → x ≡ stepped TOO-MUCH s → Joined a row-a b row-b s (Planned x Nothing)
-      join_over m h d rs ka kb ps ps' ws ws' sa sb q =
-          rw (
-            h,
-            ne_eqb a b d,
-            merged_at TooMuch m rs ka kb,
-            ← ap (λ (r : Row). r.rank) ka,
-            ← ap (λ (r : Row). r.rank) kb,
-            le-ltb MAX-RANK row-a.rank la,
-            le-ltb MAX-RANK row-b.rank lb,
-            q,
-          )
-
-      pub join_both : (sum : Value) → merge (value_of row-a) (value_of row-b) ≡ Both sum → x ≡ stepped DONE s → (f : Finish)
-          → finish_of f ≡ united a row-a.rank b row-b.rank sum → Joined a row-a b row-b s (Planned x f)
-      join_both sum m h f u d rs ka kb ps ps' ws ws' sa sb q =
+      pub join_both : (sum : Value) → merge (value_of row-a) (value_of row-b) ≡ Ok sum → (x : Answer) → x ≡ stepped DONE s → (f : Finish)
+          → finish_of f ≡ united a row-a.rank b row-b.rank sum → Joined a row-a b row-b s (Ok (planned x f))
+      join_both sum m x h f u d rs ka kb ps ps' ws ws' sa sb q =
           ap (plan x) (and_then_lem (ws ++ ws') f)
           ∙ rw (
             h,
             u,
             ne_eqb a b d,
-            merged_at (Both sum) m rs ka kb,
+            merged_at (Ok sum) m rs ka kb,
             ← ap (λ (r : Row). r.rank) ka,
             ← ap (λ (r : Row). r.rank) kb,
             le-ltb MAX-RANK row-a.rank la,

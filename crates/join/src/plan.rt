@@ -3,10 +3,11 @@ ghost use Rattle.rules.specs.Rules.{MAX-RANK};
 ghost use Rattle.plans.specs.Plans.{finish_of, united, InsideEnd, Inside, Joined};
 
 use makers::answer::stepped;
-use plans::verdict::{Finish, Verdict};
-use rules::numbers::{BROKEN_TABLE, DONE, MAX_RANK, OWNER_CLASH, TOO_MUCH};
-use rules::table::{Merged, Row, Value};
-use value::value_of;
+use plans::verdict::{Finish, Planned};
+use rules::numbers::{DONE, MAX_RANK};
+use rules::refusal::Refusal;
+use rules::table::{Row, Value};
+use value::unify_values;
 
 // Which root redirects to which: ena's `unify_roots`.
 fn unify_roots(key_a: u32, rank_a: u32, key_b: u32, rank_b: u32, value: Value) -> Finish
@@ -24,23 +25,25 @@ fn unify_roots(key_a: u32, rank_a: u32, key_b: u32, rank_b: u32, value: Value) -
 }
 
 // Two different roots made one, where their values merge.
-pub fn join_roots(key_a: u32, row_a: Row, key_b: u32, row_b: Row, steps: u32) -> Verdict
+pub fn join_roots(
+    key_a: u32,
+    row_a: Row,
+    key_b: u32,
+    row_b: Row,
+    steps: u32,
+) -> Result<Planned, Refusal>
     ensures joined { Joined key_a row_a key_b row_b steps result }
     ensures by_index { (count : ℕ) → key_a < count → key_b < count → Inside count result }
 {
-    if row_a.rank > MAX_RANK {
-        return Verdict::Refused(BROKEN_TABLE);
+    if row_a.rank > MAX_RANK || row_b.rank > MAX_RANK {
+        return Err(Refusal::BrokenTable);
     }
-    if row_b.rank > MAX_RANK {
-        return Verdict::Refused(BROKEN_TABLE);
-    }
-    let merged = value::unify_values(value_of(row_a), value_of(row_b));
-    match merged {
-        Merged::Clash => Verdict::Planned(stepped(OWNER_CLASH, steps), Finish::Nothing),
-        Merged::TooMuch => Verdict::Planned(stepped(TOO_MUCH, steps), Finish::Nothing),
-        Merged::Both(sum) => {
-            let finish = unify_roots(key_a, row_a.rank, key_b, row_b.rank, sum);
-            Verdict::Planned(stepped(DONE, steps), finish)
-        }
-    }
+    let plan = match unify_values(Value::from(row_a), Value::from(row_b)) {
+        Ok(sum) => Planned {
+            answer: stepped(DONE, steps),
+            finish: unify_roots(key_a, row_a.rank, key_b, row_b.rank, sum),
+        },
+        Err(why) => Planned::unmerged(why, steps),
+    };
+    Ok(plan)
 }

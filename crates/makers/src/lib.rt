@@ -1,5 +1,4 @@
-// Functions that make answers and owners, each with its definition as contract.
+// Functions that make answers, each with its definition as contract.
 #![tactic(auto)]
 
 pub mod answer;
-pub mod owner;

@@ -1,13 +1,13 @@
 -- Laws of the parents that a walk leaves on its path, and of the path from another key there. Assumes nothing.
-use Rattle.std.specs.Prelude.{◌≡◌, ◌∷◌, ◌+◌, ◌-◌, ◌≤◌, ◌<◌}
-use Rattle.kit.specs.Names.{refl, ap, sym, ◌∙◌, true, List, [], append-nil, ℕ, zero, suc, length, get_or, take, set, length-set, length-take, get_or-set_same}
-use Rattle.kit.specs.Names.{get_or-set_other, set_out, take-set-le, get_or-take, arith, dec_lt, ℕ_discrete}
+use Rattle.std.specs.Prelude.{◌≡◌, ◌∷◌, ◌+◌, ◌-◌, ◌≤◌, ◌<◌, Some}
+use Rattle.kit.specs.Names.{refl, ap, sym, ◌∙◌, List, [], append-nil, ℕ, zero, suc, length, get_or, take, set, length-set, get_or-set_same}
+use Rattle.kit.specs.Names.{get_or-set_other, set_out, take-set-le, arith, dec_lt, ℕ_discrete}
 use Rattle.rules.specs.Rules.{broken, to, path}
 use Rattle.roots.specs.declared.path.Trail.{Trail}
-use Rattle.roots.specs.Trail.{root_of, passed_of, compress, compressed, traced, Short}
+use Rattle.roots.specs.Trail.{root_of, passed_of, compress, compressed, traced}
 use Rattle.roots.proofs.PathLaws.{path_root, along, along_to, trace_root, trace_out, trace_spent, trace_more}
 use Rattle.roots.proofs.WalkLaws.{path_in, path_end, path_nil}
-use Rattle.roots.proofs.AfterLaws.{compress_off, path_cons, root_in_lem}
+use Rattle.roots.proofs.AfterLaws.{Off, compress_off, path_cons, root_in_lem}
 
 -- what is stored stays where it was
 set_keeps : (l : List ℕ) (i j a : ℕ) → get_or l j 0 ≡ a → get_or (set l i a) j 0 ≡ a
@@ -94,51 +94,38 @@ module _ (ps : List ℕ) (count a root : ℕ) (passed : List ℕ) (le : count �
       )
 
 -- the first walk as a trail
-module _ (ps : List ℕ) (count a : ℕ) (f : Trail) (le : count ≤ length ps) (q : f.found ≡ true) (t : traced f ≡ path ps count 16 a) (sh : Short f) where
-  trail_there : path ps count 16 a ≡ to (root_of f) (passed_of f)
-  trail_there = rw (← t, q)
+module _ (ps : List ℕ) (count a : ℕ) (f : Trail) (le : count ≤ length ps) (t : traced (Some f) ≡ path ps count 16 a)
+    (key at steps : ℕ) (nodes : List ℕ) (h : steps ≤ 16) (l : length nodes ≡ 17)
+    (inv : path (compressed f ps) count 16 key ≡ along (take steps nodes) (path (compressed f ps) count (16 - steps) at)) where
+  pub after_out : count ≤ at → broken ≡ path (compressed f ps) count 16 key
+  after_out o = trace_out (compressed f ps) nodes count key at steps h l inv o
 
-  trail_length : length (passed_of f) ≡ f.steps
-  trail_length = rw length-take (omega arith)
+  module _ (lt : at < count) where
+    -- at a row that is not on the trail
+    module _ (off : Off at (passed_of f)) where
+      off_parent : get_or (compressed f ps) at 0 ≡ get_or ps at 0
+      off_parent = compress_off (root_of f) at (passed_of f) ps off
 
-  -- at a row that is not on the trail
-  module _ (at : ℕ) (off : (i : ℕ) → i < f.steps → get_or f.nodes i 0 ≡ at → ⊥) where
-    pub off_parent : get_or (compress (root_of f) (passed_of f) ps) at 0 ≡ get_or ps at 0
-    off_parent =
-        compress_off (root_of f) at (passed_of f) ps
-        (λ i lt e. off i (omega (arith, trail_length)) (sym (get_or-take f.steps f.nodes i 0 (omega (arith, trail_length))) ∙ e))
+      pub after_root : get_or ps at 0 ≡ at
+          → to (get_or (set nodes steps at) steps 0) (take steps (set nodes steps at)) ≡ path (compressed f ps) count 16 key
+      after_root r = trace_root (compressed f ps) nodes count key at steps h l inv lt (off_parent ∙ r)
 
-  module _ (key at steps : ℕ) (nodes : List ℕ) (h : steps ≤ 16) (l : length nodes ≡ 17)
-      (inv : path (compress (root_of f) (passed_of f) ps) count 16 key ≡ along (take steps nodes) (path (compress (root_of f) (passed_of f) ps) count (16 - steps) at)) where
-    pub after_out : count ≤ at → broken ≡ path (compressed f ps) count 16 key
-    after_out o = (trace_out (compress (root_of f) (passed_of f) ps) nodes count key at steps h l inv o)
+      module _ (n : get_or ps at 0 ≡ at → ⊥) where
+        pub after_spent : steps ≡ 16 → broken ≡ path (compressed f ps) count 16 key
+        after_spent s = trace_spent (compressed f ps) nodes count key at steps h l inv s lt (λ e. n (sym off_parent ∙ e))
 
-    module _ (lt : at < count) where
-      module _ (off : (i : ℕ) → i < f.steps → get_or f.nodes i 0 ≡ at → ⊥) where
-        pub after_root : get_or ps at 0 ≡ at
-            → to (get_or (set nodes steps at) steps 0) (take steps (set nodes steps at)) ≡ path (compressed f ps) count 16 key
-        after_root r = (trace_root (compress (root_of f) (passed_of f) ps) nodes count key at steps h l inv lt (off_parent at off ∙ r))
+        pub after_more : (steps ≡ 16 → ⊥)
+            → path (compressed f ps) count 16 key
+            ≡ along (take (steps + 1) (set nodes steps at)) (path (compressed f ps) count (16 - (steps + 1)) (get_or ps at 0))
+        after_more s =
+            rw off_parent at (trace_more (compressed f ps) nodes count key at steps h l inv s lt (λ e. n (sym off_parent ∙ e)))
 
-        pub after_spent : steps ≡ 16 → (get_or ps at 0 ≡ at → ⊥) → broken ≡ path (compressed f ps) count 16 key
-        after_spent s n = (trace_spent (compress (root_of f) (passed_of f) ps) nodes count key at steps h l inv s lt (λ e. n (sym (off_parent at off) ∙ e)))
+    -- at one that is
+    module _ (j : ℕ) (on : j < length (passed_of f)) (met : get_or (passed_of f) j 0 ≡ at) where
+      pub on_spent : steps ≡ 16 → broken ≡ path (compressed f ps) count 16 key
+      on_spent s = met_spent ps count a (root_of f) (passed_of f) le (sym t) j on nodes key at steps h l inv met lt s
 
-        pub after_more : (steps ≡ 16 → ⊥) → (get_or ps at 0 ≡ at → ⊥)
-            → path (compress (root_of f) (passed_of f) ps) count 16 key
-            ≡ along (take (steps + 1) (set nodes steps at)) (path (compress (root_of f) (passed_of f) ps) count (16 - (steps + 1)) (get_or ps at 0))
-        after_more s n =
-            rw (off_parent at off) at (trace_more (compress (root_of f) (passed_of f) ps) nodes count key at steps h l inv s lt (λ e. n (sym (off_parent at off) ∙ e)))
-
-      module _ (j : ℕ) (on : j < f.steps) (met : get_or f.nodes j 0 ≡ at) where
-        on_passed : j < length (passed_of f)
-        on_passed = omega (arith, trail_length)
-
-        met_passed : get_or (passed_of f) j 0 ≡ at
-        met_passed = get_or-take f.steps f.nodes j 0 on ∙ met
-
-        pub on_spent : steps ≡ 16 → broken ≡ path (compressed f ps) count 16 key
-        on_spent s = (met_spent ps count a (root_of f) (passed_of f) le trail_there j on_passed nodes key at steps h l inv met_passed lt s)
-
-        pub on_more : (steps ≡ 16 → ⊥)
-            → to (get_or (set (set nodes steps at) (steps + 1) (root_of f)) (steps + 1) 0) (take (steps + 1) (set (set nodes steps at) (steps + 1) (root_of f)))
-            ≡ path (compressed f ps) count 16 key
-        on_more s = (met_more ps count a (root_of f) (passed_of f) le trail_there j on_passed nodes key at steps h l inv met_passed lt s)
+      pub on_more : (steps ≡ 16 → ⊥)
+          → to (get_or (set (set nodes steps at) (steps + 1) (root_of f)) (steps + 1) 0) (take (steps + 1) (set (set nodes steps at) (steps + 1) (root_of f)))
+          ≡ path (compressed f ps) count 16 key
+      on_more s = met_more ps count a (root_of f) (passed_of f) le (sym t) j on nodes key at steps h l inv met lt s

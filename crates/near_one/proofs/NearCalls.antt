@@ -7,8 +7,7 @@ use Rattle.roots.specs.declared.near.Near.{Near}
 use Rattle.roots.proofs.NearLaws.{Found}
 use Rattle.plans.specs.declared.verdict.OneCall.{OneCall}
 use Rattle.plans.specs.declared.verdict.TwoCall.{TwoCall}
-use Rattle.plans.specs.declared.verdict.Verdict.{Verdict}
-use Rattle.plans.specs.Plans.{MadeOfOne, MadeOfTwo, Inside, fitted}
+use Rattle.plans.specs.Plans.{Verdict, MadeOfOne, MadeOfTwo, Inside, fitted}
 use Rattle.decisions.specs.Sorted.{one_call, two_call}
 use Rattle.decisions.specs.End.{still_todo, verdict_todo}
 use Rattle.decisions.specs.Decided.{Does}

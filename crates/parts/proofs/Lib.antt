@@ -1,3 +1,2 @@
--- For callers: an index below a count is within what is lent; and what the proofs use.
+-- For callers: an index below a count is within what is lent.
 pub mod BoundLaws
-pub mod StoreLaws

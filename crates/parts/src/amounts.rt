@@ -1,4 +1,4 @@
-// An amount as two words, as the log holds it.
+// An amount as two words, as the log holds it. Functions and no `From`, which cannot be written for a pair and a `u64`.
 ghost use Rattle.std.specs.Prelude.{◌≡◌};
 ghost use Rattle.rules.specs.Rules.{amount_of, low_of, high_of};
 

@@ -1,17 +1,35 @@
 -- A call's plan as the code has it, made of where its walks lead: what the rules make of the same walks.
-use Rattle.std.specs.Prelude.{◌≡◌, ◌∷◌, ◌++◌, ◌+◌, ◌-◌, ◌<◌}
+use Rattle.std.specs.Prelude.{◌≡◌, ◌∷◌, ◌++◌, ◌+◌, ◌-◌, ◌<◌, Result, Ok, Err}
 use Rattle.kit.specs.Names.{Bool, false, cond, List, [], ℕ, length, eqb, ltb}
-use Rattle.rules.specs.Rules.{Row, Value, LOG-FULL, Rows, value, owner_of, row_at, refusal, Write, redirect, crown, Plan, plan, Walked, find_on, unioned_on, join_on}
-use Rattle.rules.specs.Rules.{post_on, probe_on, probe_key_on}
+use Rattle.rules.specs.Rules.{Row, Value, Answer, Rows, value, owner_of, row_at, refusal, Write, redirect, crown, Plan, plan, Walked, find_on, unioned_on, join_on}
+use Rattle.rules.specs.Rules.{post_on, probe_on, probe_key_on, code_of, stepped, OWNER-CLASH, TOO-MUCH}
+use Rattle.rules.specs.declared.table.MergeError.{MergeError}
+use Rattle.rules.specs.declared.table.MergeError.TheVariants.{Clash, TooMuch}
+use Rattle.rules.specs.declared.refusal.Refusal.{Refusal}
+use Rattle.rules.specs.declared.refusal.Refusal.TheVariants.{LogFull}
 use Rattle.roots.specs.Saves.{with_parents}
 use Rattle.plans.specs.declared.verdict.Finish.{Finish}
 use Rattle.plans.specs.declared.verdict.Finish.TheVariants.{Nothing, Crown, Unite}
-use Rattle.plans.specs.declared.verdict.Verdict.{Verdict}
-use Rattle.plans.specs.declared.verdict.Verdict.TheVariants.{Refused, Planned}
+use Rattle.plans.specs.declared.verdict.Planned.{Planned}
 use Rattle.plans.specs.declared.verdict.OneCall.{OneCall}
 use Rattle.plans.specs.declared.verdict.OneCall.TheVariants.{Find, Probe, ProbeKey, Post}
 use Rattle.plans.specs.declared.verdict.TwoCall.{TwoCall}
 use Rattle.plans.specs.declared.verdict.TwoCall.TheVariants.{Unioned, Join}
+
+-- A plan, or why there is none.
+abbrev pub Verdict : Type 0
+Verdict = Result Planned Refusal
+
+abbrev pub planned : Answer → Finish → Planned
+planned a f = record { answer = a; finish = f }
+
+-- Nothing is written at the roots; so where a merge fails.
+abbrev pub still : Answer → Planned
+still a = planned a Nothing
+
+abbrev pub unmerged : MergeError → ℕ → Planned
+unmerged Clash s = still (stepped OWNER-CLASH s)
+unmerged TooMuch s = still (stepped TOO-MUCH s)
 
 -- ---- what is written
 
@@ -29,8 +47,8 @@ and_then walked (Unite old new rank v) = walked ++ (redirect old new ∷ crown n
 
 -- The rules' plan that a verdict stands for.
 abbrev pub plan_of : List Write → Verdict → Plan
-plan_of walked (Refused n) = plan (refusal n) []
-plan_of walked (Planned a f) = plan a (and_then walked f)
+plan_of walked (Err why) = plan (refusal (code_of why)) []
+plan_of walked (Ok p) = plan p.answer (and_then walked p.finish)
 
 -- The roots that are written are rows.
 abbrev pub InsideEnd : ℕ → Finish → Type 0
@@ -39,8 +57,8 @@ InsideEnd count (Crown key rank v) = key < count
 InsideEnd count (Unite old new rank v) = (old < count) × (new < count)
 
 abbrev pub Inside : ℕ → Verdict → Type 0
-Inside count (Refused n) = Unit {0}
-Inside count (Planned a f) = InsideEnd count f
+Inside count (Err why) = Unit {0}
+Inside count (Ok p) = InsideEnd count p.finish
 
 -- ---- what a call makes of its walks
 
@@ -90,5 +108,5 @@ abbrev pub lacks : ℕ → ℕ → ℕ → ℕ → Bool
 lacks opened used room n = cond (eqb opened 0) false (ltb (room - used) n)
 
 abbrev pub fitted : ℕ → ℕ → ℕ → ℕ → Verdict → Verdict
-fitted opened used room walked (Refused n) = Refused n
-fitted opened used room walked (Planned a f) = cond (lacks opened used room (walked + length (finish_of f))) (Refused LOG-FULL) (Planned a f)
+fitted opened used room walked (Err why) = Err why
+fitted opened used room walked (Ok p) = cond (lacks opened used room (walked + length (finish_of p.finish))) (Err LogFull) (Ok p)

@@ -1,8 +1,8 @@
 ghost use Rattle.std.specs.Prelude.{◌≡◌, ◌≤◌, ◌<◌, length};
 ghost use Rattle.plans.specs.Plans.{finish_of, lacks, fitted};
 
-use crate::verdict::{Finish, Verdict};
-use rules::numbers::LOG_FULL;
+use crate::verdict::{Finish, Planned};
+use rules::refusal::Refusal;
 
 // Whether a snapshot is open and so many entries exceed the free ones.
 pub fn lacks(opened: u32, used: u32, room: usize, entries: usize) -> bool
@@ -28,19 +28,21 @@ fn finish_entries(end: Finish) -> usize
 }
 
 // LOG_FULL where the entries of the walks and of the end do not fit.
-pub fn fitted(verdict: Verdict, opened: u32, used: u32, room: usize, walked: usize) -> Verdict
+pub fn fitted(
+    verdict: Result<Planned, Refusal>,
+    opened: u32,
+    used: u32,
+    room: usize,
+    walked: usize,
+) -> Result<Planned, Refusal>
     requires used_le_room { used ≤ room }
     requires walked_bound { walked < 64 }
     ensures { result ≡ fitted opened used room walked verdict }
 {
-    match verdict {
-        Verdict::Refused(no) => Verdict::Refused(no),
-        Verdict::Planned(answer, finish) => {
-            let entries = walked + finish_entries(finish);
-            if lacks(opened, used, room, entries) {
-                return Verdict::Refused(LOG_FULL);
-            }
-            Verdict::Planned(answer, finish)
-        }
+    let plan = verdict?;
+    let entries = walked + finish_entries(plan.finish);
+    if lacks(opened, used, room, entries) {
+        return Err(Refusal::LogFull);
     }
+    Ok(plan)
 }

@@ -1,5 +1,10 @@
+ghost use Rattle.std.specs.Prelude.{◌≡◌};
+ghost use Rattle.plans.specs.Plans.{still, unmerged};
+
+use makers::answer::stepped;
 use rules::call::Answer;
-use rules::table::Value;
+use rules::refusal::Refusal;
+use rules::table::{MergeError, Value};
 
 // What is written at the roots, after the walks.
 #[derive(Clone, Copy)]
@@ -11,11 +16,35 @@ pub enum Finish {
     Unite(u32, u32, u32, Value),
 }
 
-// What a call that walks comes to: a refusal, which leaves even the walks unwritten; or an answer, the walks, and an end at the roots.
+// What a call that walks comes to where it isn't refused: an answer, the walks, and an end at the roots. A refusal leaves even the
+// walks unwritten.
 #[derive(Clone, Copy)]
-pub enum Verdict {
-    Refused(u32),
-    Planned(Answer, Finish),
+pub struct Planned {
+    pub answer: Answer,
+    pub finish: Finish,
+}
+
+impl Planned {
+    // Nothing is written at the roots.
+    pub fn still(answer: Answer) -> Planned
+        ensures { result ≡ still answer }
+    {
+        Planned {
+            answer,
+            finish: Finish::Nothing,
+        }
+    }
+
+    // "A merge that fails logs only its walks' entries".
+    pub fn unmerged(why: MergeError, steps: u32) -> Planned
+        ensures { result ≡ unmerged why steps }
+    {
+        let no = match why {
+            MergeError::Clash => Refusal::OwnerClash,
+            MergeError::TooMuch => Refusal::TooMuch,
+        };
+        Planned::still(stepped(no.code(), steps))
+    }
 }
 
 // The calls that walk from one key, and those that walk from two.

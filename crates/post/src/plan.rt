@@ -1,24 +1,22 @@
-ghost use Rattle.std.specs.Prelude.{ℕ, ◌<◌};
+ghost use Rattle.std.specs.Prelude.{ℕ, ◌<◌, Ok};
 ghost use Rattle.plans.specs.Plans.{Inside, Posted};
 
 use makers::answer::stepped;
-use plans::verdict::{Finish, Verdict};
-use rules::numbers::{DONE, OWNER_CLASH, TOO_MUCH};
-use rules::table::{Merged, Row, Value};
-use value::value_of;
+use plans::verdict::{Finish, Planned};
+use rules::numbers::DONE;
+use rules::table::{Row, Value};
+use value::unify_values;
 
 // A value on a root.
-pub fn post_plan(held: Row, root: u32, steps: u32, value: Value) -> Verdict
-    ensures posted { Posted held root steps value result }
-    ensures by_index { (count : ℕ) → root < count → Inside count result }
+pub fn post_plan(held: Row, root: u32, steps: u32, value: Value) -> Planned
+    ensures posted { Posted held root steps value (Ok result) }
+    ensures by_index { (count : ℕ) → root < count → Inside count (Ok result) }
 {
-    let merged = value::unify_values(value_of(held), value);
-    match merged {
-        Merged::Clash => Verdict::Planned(stepped(OWNER_CLASH, steps), Finish::Nothing),
-        Merged::TooMuch => Verdict::Planned(stepped(TOO_MUCH, steps), Finish::Nothing),
-        Merged::Both(sum) => {
-            let finish = Finish::Crown(root, held.rank, sum);
-            Verdict::Planned(stepped(DONE, steps), finish)
-        }
+    match unify_values(Value::from(held), value) {
+        Ok(sum) => Planned {
+            answer: stepped(DONE, steps),
+            finish: Finish::Crown(root, held.rank, sum),
+        },
+        Err(why) => Planned::unmerged(why, steps),
     }
 }

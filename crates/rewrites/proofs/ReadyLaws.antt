@@ -1,11 +1,9 @@
 -- Laws of memory that is ready for writes, and of writes one after the other. Assumes nothing.
-use Rattle.std.specs.Prelude.{◌≡◌, ◌∷◌, ◌++◌, ◌+◌, ◌≤◌, ◌<◌}
+use Rattle.std.specs.Prelude.{◌≡◌, ◌∷◌, ◌++◌, ◌+◌, ◌≤◌}
 use Rattle.kit.specs.Names.{refl, ap, subst⁻¹, ◌∙◌, Bool, true, false, cond, List, [], ℕ, suc, length, length-set, eqb, arith, ne_eqb}
 use Rattle.rules.specs.Rules.{UndoLog, Rows, Log, row_at, put_entry, Write, place, Memory, put, puts}
 use Rattle.rules.specs.declared.table.UndoLog.TheVariants.{SetElem}
 use Rattle.rules.proofs.RowLaws.{puts_rows}
-use Rattle.parts.specs.Bounds.{InRows, Loggable}
-use Rattle.parts.proofs.BoundLaws.{even_row}
 use Rattle.roots.specs.declared.path.Trail.{Trail}
 use Rattle.roots.specs.Trail.{root_of, passed_of, compressed, walk_of, Sound}
 use Rattle.roots.proofs.RewriteLaws.{puts_append, rows_after}
@@ -15,12 +13,6 @@ use Rattle.plans.proofs.PlanLaws.{and_then_lem}
 use Rattle.parts.specs.Ready.{Ready}
 
 module _ {count n : ℕ} {m : Memory} (R : Ready count n m) where
-  pub ready_row : {i : ℕ} → i < count → InRows i m.rows
-  ready_row {i} h = even_row m.rows count i R.rows h
-
-  pub ready_entry : 0 < n → Loggable m.opened m.used m.log
-  ready_entry h = λ o. let room = R.room o in let limit = R.limit in record { words = omega arith; limit = omega arith }
-
   pub ready_less : (k : ℕ) → k ≤ n → Ready count k m
   ready_less k h = record { rows = R.rows; limit = R.limit; room = λ o. let r = R.room o in omega arith }
 
@@ -58,9 +50,6 @@ puts_ready count n [] m R = ready_less R n (omega arith)
 puts_ready count n (w ∷ ws) m R =
     puts_ready count n ws (put m w) (put_ready count (length ws + n) m w (ready_less R (suc (length ws + n)) (omega arith)))
 
-pub ready_put : (count n : ℕ) (m m' : Memory) (w : Write) → m' ≡ put m w → Ready count (suc n) m → Ready count n m'
-ready_put count n m m' w e R = subst⁻¹ (λ (x : Memory). Ready count n x) e (put_ready count n m w R)
-
 pub ready_puts : (count n : ℕ) (m m' : Memory) (ws : List Write) → m' ≡ puts m ws → Ready count (length ws + n) m → Ready count n m'
 ready_puts count n m m' ws e R = subst⁻¹ (λ (x : Memory). Ready count n x) e (puts_ready count n ws m R)
 
@@ -69,14 +58,6 @@ ready_puts count n m m' ws e R = subst⁻¹ (λ (x : Memory). Ready count n x) e
 pub put_none : (m : Memory) → m ≡ puts m []
 unfolding puts
 put_none m = refl
-
-pub put_one : (m m' : Memory) (w : Write) → m' ≡ put m w → m' ≡ puts m (w ∷ [])
-unfolding puts
-put_one m m' w e = e
-
-pub put_two : (m m' m'' : Memory) (w v : Write) → m' ≡ put m w → m'' ≡ put m' v → m'' ≡ puts m (w ∷ v ∷ [])
-unfolding puts
-put_two m m' m'' w v e f = f ∙ ap (λ (x : Memory). put x v) e
 
 -- two walks and the end at the roots
 pub puts_three : (m m₁ m₂ m₃ : Memory) (ws vs : List Write) (end : Finish) → m₁ ≡ puts m ws → m₂ ≡ puts m₁ vs → m₃ ≡ puts m₂ (finish_of end)

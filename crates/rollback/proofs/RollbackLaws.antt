@@ -1,10 +1,9 @@
 -- What a rollback is at each of its ends, and what its functions ask of their callers. Assumes nothing.
-use Rattle.std.specs.Prelude.{◌≡◌, ◌||◌, ◌≤◌}
+use Rattle.std.specs.Prelude.{◌≡◌, ◌||◌, ◌≤◌, None, Some}
 use Rattle.kit.specs.Names.{refl, Bool, true, false, cond, not, List, ℕ, ltb, arith, ltb-false, not-false}
 use Rattle.rules.specs.declared.call.Call.TheVariants.{Rollback}
 use Rattle.rules.specs.Rules.{Head, Mark, DONE, NOT-INNERMOST, BROKEN-TABLE, Rows, Log, table, entries, with_head, refusal, not_innermost, innermost, unfit, since}
 use Rattle.rules.specs.Rules.{undoable, undo, rolled_back, outcome, refused, sizes_of, bad, call, step}
-use Rattle.rules.specs.declared.table.Sought.TheVariants.{Missing, Held}
 use Rattle.rules.proofs.StateLaws.{Good, bad_good}
 use Rattle.parts.proofs.BoundLaws.{in_rows, in_log}
 use Rattle.undo_log.specs.Settled.{state_with, latest}
@@ -54,21 +53,21 @@ module _ (rs : Rows) (lg : Log) (h : Head) (g : bad (sizes_of rs lg) h ≡ false
 
 -- ---- the ends
 
-missing : (b : Bool) (i : Mark) → cond b Missing (Held i) ≡ Missing → b ≡ true
+missing : (b : Bool) (i : Mark) → cond b None (Some i) ≡ None → b ≡ true
 missing true i e = refl
 missing false i e = cc
 
-held : (b : Bool) (i m : Mark) → cond b Missing (Held i) ≡ Held m → (b ≡ false) × (i ≡ m)
+held : (b : Bool) (i m : Mark) → cond b None (Some i) ≡ Some m → (b ≡ false) × (i ≡ m)
 held true i m e = (cc, cc)
 held false i m e = (refl, cc)
 
 module _ (rs : Rows) (lg : Log) (h : Head) (l : ℕ) (ms : List Mark) (token : ℕ) (g : bad (sizes_of rs lg) h ≡ false) where
-  pub rollback_missing : latest (state_with h l ms) token ≡ Missing
+  pub rollback_missing : latest (state_with h l ms) token ≡ None
       → step (table rs lg (state_with h l ms)) (Rollback token) ≡ refused NOT-INNERMOST (table rs lg (state_with h l ms))
   unfolding step call
   rollback_missing e = let s = state_with h l ms in rw (g, missing (not_innermost s token) (innermost s) e)
 
-  module _ (m : Mark) (e : latest (state_with h l ms) token ≡ Held m) where
+  module _ (m : Mark) (e : latest (state_with h l ms) token ≡ Some m) where
     found : (not_innermost (state_with h l ms) token ≡ false) × (innermost (state_with h l ms) ≡ m)
     found = let s = state_with h l ms in held (not_innermost s token) (innermost s) m e
 

@@ -1,19 +1,11 @@
 -- Entries that are read and undone one at a time, newest first. Assumes nothing.
-use Rattle.std.specs.Prelude.{◌≡◌, ◌&&◌, ◌∷◌, ◌+◌, ◌-◌, ◌≤◌, ◌<◌}
-use Rattle.kit.specs.Names.{refl, ap, sym, ◌∙◌, Bool, true, false, List, [], ℕ, zero, suc, length, length-set, eqb, ltb, arith, ℕ_discrete, eq-eqb, ne_eqb}
+use Rattle.std.specs.Prelude.{◌≡◌, ◌&&◌, ◌∷◌, ◌+◌, ◌-◌, ◌<◌, None, Some}
+use Rattle.kit.specs.Names.{refl, ap, sym, ◌∙◌, Bool, true, false, cond, List, [], ℕ, zero, suc, length, length-set, eqb, ltb, arith}
 use Rattle.kit.specs.Names.{eqb-true, ltb-true}
 use Rattle.rules.specs.Rules.{UndoLog, Rows, Log, entry_at, newest_first, undoable, reversed, undo}
 use Rattle.rules.specs.declared.table.UndoLog.TheVariants.{NewElem, SetElem, Unknown}
 use Rattle.parts.specs.Bounds.{InRows, Undoing}
-use Rattle.rollback.specs.Since.{Reversible, allowed, count_before}
-
--- the last of `count` keys, as the code tests it
-pub last_key : (key count : ℕ) → 0 < count → eqb key (count - 1) ≡ eqb (key + 1) count
-last_key key count h =
-    elim (ℕ_discrete key (count - 1)) [
-      | yes q ↦ rw (eq-eqb key (count - 1) q, eq-eqb (key + 1) count (omega arith))
-      | no n ↦ rw (ne_eqb key (count - 1) n, ne_eqb (key + 1) count (λ e. n (omega arith)))
-    ]
+use Rattle.rollback.specs.Since.{Reversible, allowed, count_before, reached_before}
 
 -- the first of several entries decides, or leaves it to the rest
 refuses : (e : UndoLog) (es : List UndoLog) (keys count : ℕ) → allowed e count ≡ false → undoable keys count (e ∷ es) ≡ false
@@ -28,6 +20,14 @@ unfolding undoable
 passes (NewElem key) es keys count q = rw q
 passes (SetElem key old) es keys count q = rw q
 passes Unknown es keys count q = let z : ◌≡◌ {A = ℕ} 0 1 = cc in absurd (omega arith)
+
+barred : (b : Bool) (k : ℕ) → cond b (Some k) None ≡ None → b ≡ false
+barred true k q = cc
+barred false k q = refl
+
+free : (b : Bool) (k n : ℕ) → cond b (Some k) None ≡ Some n → (b ≡ true) × (k ≡ n)
+free true k n q = (refl, cc)
+free false k n q = (cc, cc)
 
 -- ---- what can be undone changes only rows below the count
 
@@ -48,31 +48,36 @@ undoable_rows rs keys count (SetElem key old ∷ es) r q =
     (r key (ltb-true key count p.0), undoable_rows rs keys count es r p.1)
 undoable_rows rs keys count (Unknown ∷ es) r q = let z : ◌≡◌ {A = ℕ} 0 1 = cc in absurd (omega arith)
 
--- ---- the newest of n entries
+-- ---- the newest of the entries from `base` up to i
 
-first_of : (l : Log) (base n : ℕ) → 0 < n → (e : UndoLog) → e ≡ entry_at l (base + (n - 1))
-    → newest_first l base n ≡ e ∷ newest_first l base (n - 1)
+first_of : (l : Log) (base n : ℕ) → 0 < n → newest_first l base n ≡ entry_at l (base + (n - 1)) ∷ newest_first l base (n - 1)
 unfolding newest_first
-first_of l base zero h e q = absurd (omega arith)
-first_of l base (suc n) h e q = let p : suc n - 1 ≡ n = omega arith in rw (q, p)
+first_of l base zero h = absurd (omega arith)
+first_of l base (suc n) h = let p : suc n - 1 ≡ n = omega arith in rw p
 
-module _ (l : Log) (base n : ℕ) (h : 0 < n) (e : UndoLog) (q : e ≡ entry_at l (base + (n - 1))) where
-  newest : newest_first l base n ≡ e ∷ newest_first l base (n - 1)
-  newest = first_of l base n h e q
+module _ (l : Log) (base i : ℕ) (h : base < i) (e : UndoLog) (q : e ≡ entry_at l (i - 1)) where
+  newest : newest_first l base (i - base) ≡ e ∷ newest_first l base (i - 1 - base)
+  newest =
+      let at : base + (i - base - 1) ≡ i - 1 = omega (arith, h) in
+      let rest : i - base - 1 ≡ i - 1 - base = omega arith in
+      let f = first_of l base (i - base) (omega (arith, h)) in
+      rw q (rw (at, rest) at f)
 
   module _ (keys count : ℕ) where
-    pub refused_next : allowed e count ≡ false → false ≡ undoable keys count (newest_first l base n)
-    refused_next a = rw newest (sym (refuses e (newest_first l base (n - 1)) keys count a))
+    pub refused_next : reached_before e count ≡ None → false ≡ undoable keys count (newest_first l base (i - base))
+    refused_next b = rw newest (sym (refuses e (newest_first l base (i - 1 - base)) keys count (barred (allowed e count) (count_before e count) b)))
 
-    pub passed_next : (count' : ℕ) → allowed e count ≡ true → count' ≡ count_before e count
-        → undoable keys count (newest_first l base n) ≡ undoable keys count' (newest_first l base (n - 1))
-    passed_next count' a r = rw (newest, r) (passes e (newest_first l base (n - 1)) keys count a)
+    pub passed_next : (count' : ℕ) → reached_before e count ≡ Some count'
+        → undoable keys count (newest_first l base (i - base)) ≡ undoable keys count' (newest_first l base (i - 1 - base))
+    passed_next count' b =
+        let r = free (allowed e count) (count_before e count) count' b in
+        rw (newest, ← r.1) (passes e (newest_first l base (i - 1 - base)) keys count r.0)
 
-  reversible_next : (rs : Rows) → Reversible rs (newest_first l base n) → Undoing e rs × Reversible rs (newest_first l base (n - 1))
+  reversible_next : (rs : Rows) → Reversible rs (newest_first l base (i - base)) → Undoing e rs × Reversible rs (newest_first l base (i - 1 - base))
   unfolding Reversible
   reversible_next rs b = rw newest at b
 
-  undone_next : (rs rs' : Rows) → rs' ≡ reversed rs e → undo rs (newest_first l base n) ≡ undo rs' (newest_first l base (n - 1))
+  undone_next : (rs rs' : Rows) → rs' ≡ reversed rs e → undo rs (newest_first l base (i - base)) ≡ undo rs' (newest_first l base (i - 1 - base))
   unfolding undo
   undone_next rs rs' r = rw (newest, r)
 
@@ -97,31 +102,29 @@ as_long_row now before (NewElem key) a u = tt
 as_long_row now before (SetElem key old) a u = omega arith
 as_long_row now before Unknown a u = tt
 
--- of `all` entries from `base` on, those past the first `left` are undone
-pub record Undone (before now : Rows) (l : Log) (base all left : ℕ) : Type 0 where
-  pub rest : left ≤ all
+-- of the entries from `base` up to `used`, those from i on are undone
+pub record Undone (before now : Rows) (l : Log) (base used i : ℕ) : Type 0 where
   pub as_long : AsLong now before
-  pub reversible : Reversible before (newest_first l base left)
-  pub undone : undo before (newest_first l base all) ≡ undo now (newest_first l base left)
+  pub reversible : Reversible before (newest_first l base (i - base))
+  pub undone : undo before (newest_first l base (used - base)) ≡ undo now (newest_first l base (i - base))
 
-pub none_undone : (rs : Rows) (l : Log) (base all : ℕ) → Reversible rs (newest_first l base all) → Undone rs rs l base all all
-none_undone rs l base all r =
-    record { rest = omega arith; as_long = record { parents = refl; crowns = refl; amounts = refl }; reversible = r; undone = refl }
+pub none_undone : (rs : Rows) (l : Log) (base used : ℕ) → Reversible rs (newest_first l base (used - base)) → Undone rs rs l base used used
+none_undone rs l base used r =
+    record { as_long = record { parents = refl; crowns = refl; amounts = refl }; reversible = r; undone = refl }
 
-module _ (before now : Rows) (l : Log) (base all left : ℕ) (u : Undone before now l base all left) where
-  pub all_undone : left ≡ 0 → now ≡ undo before (newest_first l base all)
+module _ (before now : Rows) (l : Log) (base used i : ℕ) (u : Undone before now l base used i) where
+  pub all_undone : i - base ≡ 0 → now ≡ undo before (newest_first l base (used - base))
   unfolding undo newest_first
   all_undone q = sym (u.undone ∙ ap (λ (n : ℕ). undo now (newest_first l base n)) q)
 
-  module _ (h : 0 < left) (e : UndoLog) (q : e ≡ entry_at l (base + (left - 1))) where
+  module _ (h : base < i) (e : UndoLog) (q : e ≡ entry_at l (i - 1)) where
     pub undone_row : Undoing e now
-    undone_row = as_long_row now before e u.as_long (reversible_next l base left h e q before u.reversible).0
+    undone_row = as_long_row now before e u.as_long (reversible_next l base i h e q before u.reversible).0
 
-    pub undone_more : (rs : Rows) → rs ≡ reversed now e → Undone before rs l base all (left - 1)
+    pub undone_more : (rs : Rows) → rs ≡ reversed now e → Undone before rs l base used (i - 1)
     undone_more rs r =
         record {
-          rest = let p = u.rest in omega arith;
           as_long = as_long_next now before e rs r u.as_long;
-          reversible = (reversible_next l base left h e q before u.reversible).1;
-          undone = u.undone ∙ undone_next l base left h e q now rs r;
+          reversible = (reversible_next l base i h e q before u.reversible).1;
+          undone = u.undone ∙ undone_next l base i h e q now rs r;
         }

@@ -1,6 +1,6 @@
 -- The entries since a snapshot: that they lie in what is lent, and what one of them means for those before it.
-use Rattle.std.specs.Prelude.{◌||◌, ◌∷◌, ◌+◌, ◌<◌}
-use Rattle.kit.specs.Names.{Bool, false, not, List, [], ℕ, eqb, ltb}
+use Rattle.std.specs.Prelude.{◌||◌, ◌∷◌, ◌+◌, ◌<◌, Option, None, Some}
+use Rattle.kit.specs.Names.{Bool, false, not, cond, List, [], ℕ, eqb, ltb}
 use Rattle.rules.specs.Rules.{Head, Mark, UndoLog, Rows, Log, unfit, since, undoable}
 use Rattle.rules.specs.declared.table.UndoLog.TheVariants.{NewElem, SetElem, Unknown}
 use Rattle.parts.specs.Bounds.{InLog, Undoing}
@@ -31,3 +31,7 @@ abbrev pub count_before : UndoLog → ℕ → ℕ
 count_before (NewElem key) count = key
 count_before (SetElem key old) count = count
 count_before Unknown count = count
+
+-- both of it
+abbrev pub reached_before : UndoLog → ℕ → Option ℕ
+reached_before e count = cond (allowed e count) (Some (count_before e count)) None

@@ -10,21 +10,17 @@ pub fn broken(head: Head, mark: Mark, log: &[u32]) -> bool
     requires { Logged head.used log.now }
     ensures { result ≡ broken head mark log.now }
 {
-    if undo_log::marks::unfit(head, mark) {
-        return true;
-    }
-    let fits = crate::undo::undoable(log, mark.log_len, head.used, mark.keys, head.count);
-    !fits
+    undo_log::marks::unfit(head, mark)
+        || !crate::undo::undoable(log, mark.log_len, head.used, mark.keys, head.count)
 }
 
 // The head as it was when the mark was made, with its snapshot closed.
 pub fn rolled_back(head: Head, mark: Mark) -> Head
     ensures { result ≡ rolled_back head mark }
 {
-    let open = undo_log::tokens::closed(head.open);
     Head {
         count: mark.keys,
         used: mark.log_len,
-        open,
+        open: undo_log::tokens::closed(head.open),
     }
 }

@@ -1,35 +1,20 @@
 // The entries since a snapshot, read newest first.
 ghost use Rattle.std.specs.Prelude.{◌≡◌, ◌-◌, ◌≤◌};
 ghost use Rattle.rules.specs.Rules.{newest_first, undoable};
-ghost use Rattle.rollback.specs.Since.{Logged, allowed, count_before};
+ghost use Rattle.rollback.specs.Since.{Logged, reached_before};
 
 use parts::entries::entry_at;
 use rules::table::UndoLog;
 
-// Whether an entry can be undone where `count` keys are left: a new row has to be the last, a changed row has to be there.
-fn allowed(entry: UndoLog, count: u32) -> bool
-    ensures { result ≡ allowed entry count }
+// How many keys there were before what an entry tells of, if it can be undone where `count` keys are left: a new row has to be the
+// last, a changed row has to be there.
+fn count_before(entry: UndoLog, count: u32) -> Option<u32>
+    ensures { result ≡ reached_before entry count }
 {
     match entry {
-        UndoLog::NewElem(key) => {
-            if count == 0 {
-                return false;
-            }
-            key == count - 1
-        }
-        UndoLog::SetElem(key, _) => key < count,
-        UndoLog::Unknown => false,
-    }
-}
-
-// How many keys there were before what an entry tells of.
-fn count_before(entry: UndoLog, count: u32) -> u32
-    ensures { result ≡ count_before entry count }
-{
-    match entry {
-        UndoLog::NewElem(key) => key,
-        UndoLog::SetElem(_, _) => count,
-        UndoLog::Unknown => count,
+        UndoLog::NewElem(key) if count.checked_sub(1) == Some(key) => Some(key),
+        UndoLog::SetElem(key, _) if key < count => Some(count),
+        UndoLog::NewElem(_) | UndoLog::SetElem(_, _) | UndoLog::Unknown => None,
     }
 }
 
@@ -39,15 +24,12 @@ pub fn undoable(log: &[u32], base: u32, used: u32, keys: u32, count: u32) -> boo
     requires logged { Logged used log.now }
     ensures { result ≡ undoable keys count (newest_first log.now base (used - base)) }
 {
-    let mut unread = used - base;
     let mut reached = count;
-    while unread > 0 {
-        unread -= 1;
-        let entry = entry_at(log, base + unread);
-        if !allowed(entry, reached) {
+    for i in (base..used).rev() {
+        let Some(before) = count_before(entry_at(log, i), reached) else {
             return false;
-        }
-        reached = count_before(entry, reached);
+        };
+        reached = before;
     }
     reached == keys
 }

@@ -1,7 +1,7 @@
 -- Laws of `path`. Assumes nothing.
 use Rattle.std.specs.Prelude.{◌≡◌, ◌∷◌, ◌++◌, ◌+◌, ◌-◌, ◌≤◌, ◌<◌}
-use Rattle.kit.specs.Names.{refl, ap, List, [], append-nil, ℕ, zero, suc, length, get_or, take, set, take-suc-set, get_or-set_same, take-set-le, arith, add-one}
-use Rattle.kit.specs.Names.{lt-ltb, le-ltb, eq-eqb, ne_eqb}
+use Rattle.kit.specs.Names.{refl, ap, cond, leb, List, [], append-nil, ℕ, zero, suc, length, get_or, take, set, take-suc-set, get_or-set_same, take-set-le, arith, add-one}
+use Rattle.kit.specs.Names.{sym, ◌∙◌, false, lt-ltb, le-ltb, le-leb, eq-eqb, ne_eqb, ℕ_discrete}
 use Rattle.rules.specs.Rules.{Path, broken, to, from, path}
 
 module _ (ps : List ℕ) (count key : ℕ) where
@@ -41,6 +41,10 @@ pub along_to : (keys : List ℕ) (root : ℕ) (passed : List ℕ) → along keys
 along_to [] root passed = refl
 along_to (k ∷ keys) root passed = ap (from k) (along_to keys root passed)
 
+-- the path from a row that a walk comes to after so many redirects, none after 17
+abbrev pub ahead : List ℕ → ℕ → ℕ → ℕ → Path
+ahead ps count steps at = cond (leb steps 16) (path ps count (16 - steps) at) broken
+
 -- the loop of `trace`: what it has passed, and the four ways on from there
 module _ (ps nodes : List ℕ) (count key at steps : ℕ) (h : steps ≤ 16) (l : length nodes ≡ 17)
     (inv : path ps count 16 key ≡ along (take steps nodes) (path ps count (16 - steps) at)) where
@@ -60,3 +64,20 @@ module _ (ps nodes : List ℕ) (count key at steps : ℕ) (h : steps ≤ 16) (l 
   trace_more e lt n =
       let less : 16 - steps ≡ suc (16 - (steps + 1)) = omega arith in
       rw (add-one, take-suc-set nodes steps at (omega arith), along_snoc, ← path_more ps count at (16 - suc steps) lt n, inv, less, add-one)
+
+-- the same of a loop over the nodes
+module _ (ps nodes : List ℕ) (count key at steps : ℕ) (h : steps < 17) (l : length nodes ≡ 17)
+    (inv : path ps count 16 key ≡ along (take steps nodes) (ahead ps count steps at)) where
+  pub still_ahead : path ps count 16 key ≡ along (take steps nodes) (path ps count (16 - steps) at)
+  still_ahead = rw (le-leb steps 16 (omega arith)) at inv
+
+  pub ahead_more : at < count → (get_or ps at 0 ≡ at → ⊥)
+      → path ps count 16 key ≡ along (take (steps + 1) (set nodes steps at)) (ahead ps count (steps + 1) (get_or ps at 0))
+  ahead_more lt n = elim (ℕ_discrete steps 16) [
+    | yes e ↦
+        let spent : leb (steps + 1) 16 ≡ false = rw e refl in
+        sym (trace_spent ps nodes count key at steps (omega arith) l still_ahead e lt n) ∙ rw (spent, along_broken)
+    | no d ↦
+        rw (le-leb (steps + 1) 16 (omega arith))
+        (trace_more ps nodes count key at steps (omega arith) l still_ahead d lt n)
+  ]

@@ -1,7 +1,7 @@
 -- A trail that was traced is a walk that can be made. Assumes nothing.
-use Rattle.std.specs.Prelude.{◌≡◌, ◌∷◌, ◌-◌, ◌<◌}
-use Rattle.kit.specs.Names.{sym, ap, ◌∙◌, true, false, List, [], ℕ, length, get_or, length-take, get_or-take, arith}
-use Rattle.rules.specs.Rules.{MAX-REDIRECTS, Rows, broken, to, path, rewrites, walked_on}
+use Rattle.std.specs.Prelude.{◌≡◌, ◌∷◌, ◌-◌, ◌<◌, Some}
+use Rattle.kit.specs.Names.{sym, ap, ◌∙◌, List, [], ℕ, length, get_or, length-take, get_or-take, arith}
+use Rattle.rules.specs.Rules.{MAX-REDIRECTS, Rows, to, path, rewrites, walked_on}
 use Rattle.roots.specs.declared.path.Trail.{Trail}
 use Rattle.roots.specs.Saves.{with_parents}
 use Rattle.roots.specs.Trail.{root_of, passed_of, traced, compressed, walk_of, Short, Sound, Idle}
@@ -28,13 +28,9 @@ pub idle_walk : (t : Trail) → t.steps ≡ 0 → walk_of t ≡ []
 unfolding rewrites
 idle_walk t q = rw q
 
-pub lost : (ps : List ℕ) (count : ℕ) (t : Trail) (key : ℕ) → traced t ≡ path ps count MAX-REDIRECTS key → t.found ≡ false
-    → path ps count MAX-REDIRECTS key ≡ broken
-lost ps count t key e f = rw (← e, f)
-
-module _ (ps : List ℕ) (count : ℕ) (t : Trail) (key : ℕ) (e : traced t ≡ path ps count MAX-REDIRECTS key) (f : t.found ≡ true) (s : Short t) where
+module _ (ps : List ℕ) (count : ℕ) (t : Trail) (key : ℕ) (e : traced (Some t) ≡ path ps count MAX-REDIRECTS key) (s : Short t) where
   pub trail_there : path ps count MAX-REDIRECTS key ≡ to (root_of t) (passed_of t)
-  trail_there = rw (← e, f)
+  trail_there = sym e
 
   pub trail_root : root_of t < count
   trail_root = root_in_lem ps count key MAX-REDIRECTS (root_of t) (passed_of t) trail_there

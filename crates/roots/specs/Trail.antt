@@ -1,6 +1,6 @@
 -- A walk as the code has it: a trail of nodes, and the parents after the walk.
-use Rattle.std.specs.Prelude.{◌≡◌, ◌∷◌, ◌≤◌, ◌<◌}
-use Rattle.kit.specs.Names.{cond, List, [], ℕ, length, get_or, take, set}
+use Rattle.std.specs.Prelude.{◌≡◌, ◌∷◌, ◌≤◌, ◌<◌, Option, Some, None}
+use Rattle.kit.specs.Names.{List, [], ℕ, length, get_or, take, set}
 use Rattle.rules.specs.Rules.{MAX-REDIRECTS, Path, broken, to, path, Write, rewrites}
 use Rattle.roots.specs.declared.path.Trail.{Trail}
 
@@ -10,9 +10,10 @@ root_of t = get_or t.nodes t.steps 0
 abbrev pub passed_of : Trail → List ℕ
 passed_of t = take t.steps t.nodes
 
--- What a trail says.
-abbrev pub traced : Trail → Path
-traced t = cond t.found (to (root_of t) (passed_of t)) broken
+-- What a trail says, or none.
+abbrev pub traced : Option Trail → Path
+traced None = broken
+traced (Some t) = to (root_of t) (passed_of t)
 
 -- The array of a trail holds all of it.
 pub record Short (t : Trail) : Type 0 where

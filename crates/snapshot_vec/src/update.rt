@@ -1,10 +1,14 @@
 // Rows are written here, and logged first where a snapshot is open. Each function returns the log's used length.
+//
+// `opened` and `used` stand apart, and no `Head` is passed: of a head only `used` changes, so one would be made anew after each write.
+// That a row and an entry lie in what is lent (`InRows`, `Loggable`) are clauses and no fact of a type: they are of what is lent, the
+// used length and an index together, and a value that held them would be made anew after each write too.
 ghost use Rattle.std.specs.Prelude.{◌≡◌};
 ghost use Rattle.rules.specs.declared.table.UndoLog.TheVariants.{SetElem};
-ghost use Rattle.rules.specs.Rules.{Rows, row_at, memory, logged, put, push, redirect, crown, reversed, rows_lent, memory_lent};
+ghost use Rattle.rules.specs.Rules.{Rows, row_at, memory, logged, put, push, redirect, crown, reversed, rows_in, log_in, memory_in, SameParts};
 ghost use Rattle.parts.specs.Bounds.{InRows, Loggable, Undoing};
 
-use rules::table::{Row, UndoLog, Value};
+use rules::table::{Lent, Row, UndoLog, Value};
 
 // Logs an entry, if a snapshot is open.
 pub fn log_entry(log: &mut [u32], opened: u32, used: u32, entry: UndoLog) -> u32
@@ -19,108 +23,61 @@ pub fn log_entry(log: &mut [u32], opened: u32, used: u32, entry: UndoLog) -> u32
 }
 
 // Logs row `i` as it stands, if a snapshot is open.
-pub fn log_row(
-    parents: &[u32],
-    crowns: &[u32],
-    amounts: &[u64],
-    log: &mut [u32],
-    opened: u32,
-    used: u32,
-    i: u32,
-) -> u32
-    requires in_rows { InRows i (rows_lent parents.now crowns.now amounts.now) }
-    requires loggable { Loggable opened used log.old }
-    ensures { let m = memory_lent parents.now crowns.now amounts.now log.old in
-        let after = memory_lent parents.now crowns.now amounts.now log.new in
-        after opened result ≡ logged (SetElem i (row_at (m opened used).rows i)) (m opened used) }
+pub fn log_row(lent: &mut Lent<'_>, opened: u32, used: u32, i: u32) -> u32
+    requires in_rows { InRows i (rows_in lent.old) }
+    requires loggable { Loggable opened used (log_in lent.old) }
+    ensures same_parts { SameParts lent.old lent.new }
+    ensures value { memory_in lent.new opened result ≡ logged (SetElem i (row_at (rows_in lent.old) i)) (memory_in lent.old opened used) }
 {
-    let old = rows::rows::row_at(parents, crowns, amounts, i);
-    log_entry(log, opened, used, UndoLog::SetElem(i, old))
+    let old = rows::rows::row_at(lent.seen(), i);
+    log_entry(lent.log, opened, used, UndoLog::SetElem(i, old))
 }
 
 // Sends row `key` to `root`.
-pub fn redirect(
-    parents: &mut [u32],
-    crowns: &[u32],
-    amounts: &[u64],
-    log: &mut [u32],
-    opened: u32,
-    used: u32,
-    key: u32,
-    root: u32,
-) -> u32
-    requires in_rows { InRows key (rows_lent parents.old crowns.now amounts.now) }
-    requires loggable { Loggable opened used log.old }
-    ensures { let m = memory_lent parents.old crowns.now amounts.now log.old in
-        let after = memory_lent parents.new crowns.now amounts.now log.new in
-        after opened result ≡ put (m opened used) (redirect key root) }
+pub fn redirect(lent: &mut Lent<'_>, opened: u32, used: u32, key: u32, root: u32) -> u32
+    requires in_rows { InRows key (rows_in lent.old) }
+    requires loggable { Loggable opened used (log_in lent.old) }
+    ensures same_parts { SameParts lent.old lent.new }
+    ensures value { memory_in lent.new opened result ≡ put (memory_in lent.old opened used) (redirect key root) }
 {
-    let more = log_row(parents, crowns, amounts, log, opened, used, key);
-    let at = key as usize;
-    parents[at] = root;
+    let more = log_row(lent, opened, used, key);
+    lent.parents[key as usize] = root;
     more
 }
 
 // Gives root `key` a rank and a value.
-pub fn crown(
-    parents: &[u32],
-    crowns: &mut [u32],
-    amounts: &mut [u64],
-    log: &mut [u32],
-    opened: u32,
-    used: u32,
-    key: u32,
-    rank: u32,
-    value: Value,
-) -> u32
-    requires in_rows { InRows key (rows_lent parents.now crowns.old amounts.old) }
-    requires loggable { Loggable opened used log.old }
-    ensures { let m = memory_lent parents.now crowns.old amounts.old log.old in
-        let after = memory_lent parents.now crowns.new amounts.new log.new in
-        after opened result ≡ put (m opened used) (crown key rank value) }
+pub fn crown(lent: &mut Lent<'_>, opened: u32, used: u32, key: u32, rank: u32, value: Value) -> u32
+    requires in_rows { InRows key (rows_in lent.old) }
+    requires loggable { Loggable opened used (log_in lent.old) }
+    ensures same_parts { SameParts lent.old lent.new }
+    ensures value { memory_in lent.new opened result ≡ put (memory_in lent.old opened used) (crown key rank value) }
 {
-    let more = log_row(parents, crowns, amounts, log, opened, used, key);
-    let at = key as usize;
-    let owner = value.owner;
-    rows::rows::put_crown(crowns, key, rank, owner);
-    amounts[at] = value.amount;
+    let more = log_row(lent, opened, used, key);
+    rows::rows::put_crown(lent.crowns, key, rank, value.owner);
+    lent.amounts[key as usize] = value.amount;
     more
 }
 
 // Makes row `key` of a new key.
-pub fn push(
-    parents: &mut [u32],
-    crowns: &mut [u32],
-    amounts: &mut [u64],
-    log: &mut [u32],
-    opened: u32,
-    used: u32,
-    key: u32,
-    row: Row,
-) -> u32
-    requires in_rows { InRows key (rows_lent parents.old crowns.old amounts.old) }
-    requires loggable { Loggable opened used log.old }
-    ensures { let m = memory_lent parents.old crowns.old amounts.old log.old in
-        let after = memory_lent parents.new crowns.new amounts.new log.new in
-        after opened result ≡ push (m opened used) key row }
+pub fn push(lent: &mut Lent<'_>, opened: u32, used: u32, key: u32, row: Row) -> u32
+    requires in_rows { InRows key (rows_in lent.old) }
+    requires loggable { Loggable opened used (log_in lent.old) }
+    ensures same_parts { SameParts lent.old lent.new }
+    ensures value { memory_in lent.new opened result ≡ push (memory_in lent.old opened used) key row }
 {
-    let more = log_entry(log, opened, used, UndoLog::NewElem(key));
-    rows::rows::put_row(parents, crowns, amounts, key, row);
+    let more = log_entry(lent.log, opened, used, UndoLog::NewElem(key));
+    rows::rows::put_row(lent, key, row);
     more
 }
 
 // Undoes an entry. A new key's row keeps what it holds.
-pub fn reverse(parents: &mut [u32], crowns: &mut [u32], amounts: &mut [u64], entry: UndoLog)
-    requires { Undoing entry (rows_lent parents.old crowns.old amounts.old) }
-    ensures { let rs = rows_lent parents.old crowns.old amounts.old in
-        let after = rows_lent parents.new crowns.new amounts.new in
-        after ≡ reversed rs entry }
+pub fn reverse(lent: &mut Lent<'_>, entry: UndoLog)
+    requires { Undoing entry (rows_in lent.old) }
+    ensures same_parts { SameParts lent.old lent.new }
+    ensures rows { rows_in lent.new ≡ reversed (rows_in lent.old) entry }
+    ensures log { log_in lent.new ≡ log_in lent.old }
 {
-    match entry {
-        UndoLog::NewElem(_) => {}
-        UndoLog::SetElem(key, old) => {
-            rows::rows::put_row(parents, crowns, amounts, key, old);
-        }
-        UndoLog::Unknown => {}
+    if let UndoLog::SetElem(key, old) = entry {
+        rows::rows::put_row(lent, key, old);
     }
 }

@@ -1,65 +1,40 @@
 // Any call over a state that is handed in and back by value: thin over `call`.
 ghost use Rattle.std.specs.Prelude.{◌≡◌};
-ghost use Rattle.rules.specs.Rules.{table_lent, outcome_of, step};
+ghost use Rattle.rules.specs.Rules.{table_in, table_seen, outcome_of, step, SameParts};
 ghost use Rattle.undo_log.specs.HeadCalls.{head_call};
+ghost use Rattle.table.specs.Outlines.{outline_of};
 
+use head_calls::calls::Outline;
 use rules::call::{Answered, Call};
-use rules::table::State;
+use rules::table::{Lent, Seen, State};
 use sought::marks::mark_for;
-use states::state::{head_of, state_after};
+use states::state::state_after;
 use undo_log::tokens::HeadCall;
 
-// Carries out any call.
-pub fn call(
-    state: State,
-    parents: &mut [u32],
-    crowns: &mut [u32],
-    amounts: &mut [u64],
-    log: &mut [u32],
-    call: Call,
-) -> Answered
-    ensures { let t = table_lent parents.old crowns.old amounts.old log.old in
-        let after = table_lent parents.new crowns.new amounts.new log.new in
-        outcome_of result after ≡ step (t state) call }
+// What a call has to know of a state.
+fn outline(state: State, call: Call) -> Outline
+    ensures { result ≡ outline_of state call }
 {
-    let sought = mark_for(state, call);
-    let settled = crate::call::call(
-        parents,
-        crowns,
-        amounts,
-        log,
-        head_of(state),
-        state.last,
-        sought,
-        call,
-    );
+    Outline {
+        head: state.head(),
+        last: state.last,
+        sought: mark_for(state, call),
+    }
+}
+
+// Carries out any call.
+pub fn call(state: State, lent: &mut Lent<'_>, call: Call) -> Answered
+    ensures same_parts { SameParts lent.old lent.new }
+    ensures value { outcome_of result (table_in lent.new) ≡ step (table_in lent.old state) call }
+{
+    let settled = crate::call::call(lent, outline(state, call), call);
     state_after(state, settled)
 }
 
 // A call that neither reads nor writes rows and entries: what is lent is only measured.
-pub fn rest(
-    state: State,
-    parents: &[u32],
-    crowns: &[u32],
-    amounts: &[u64],
-    log: &[u32],
-    call: Call,
-    asked: HeadCall,
-) -> Answered
-    requires { head_call asked ≡ call }
-    ensures { let t = table_lent parents.now crowns.now amounts.now log.now in
-        outcome_of result t ≡ step (t state) call }
+pub fn rest(state: State, seen: Seen<'_>, asked: HeadCall) -> Answered
+    ensures { outcome_of result (table_seen seen.entry) ≡ step (table_seen seen.entry state) (head_call asked) }
 {
-    let sought = mark_for(state, call);
-    let settled = crate::call::rest(
-        parents,
-        crowns,
-        amounts,
-        log,
-        head_of(state),
-        state.last,
-        sought,
-        asked,
-    );
+    let settled = crate::call::rest(seen, outline(state, Call::from(asked)), asked);
     state_after(state, settled)
 }

@@ -4,7 +4,7 @@ use Rattle.kit.specs.Names.{refl, ap, sym, ◌∙◌, Bool, true, false, cond, L
 use Rattle.rules.specs.Rules.{Answer, Answered, Head, Mark, Sought, State, DONE, NOT-INNERMOST, TOO-DEEP, BROKEN-TABLE, SERIALS-SPENT, NOT-OPEN, MAX-OPEN, MAX-U64}
 use Rattle.rules.specs.Rules.{head, head_of, with_head, refusal, range, said, opened, answered, refuse_state, marked, innermost, not_innermost, unfit, stranded}
 use Rattle.rules.specs.Rules.{committed, seek, snapshot, commit, asked, ask}
-use Rattle.rules.specs.declared.table.Sought.TheVariants.{Missing, Held}
+use Rattle.std.specs.Prelude.{None, Some}
 use Rattle.undo_log.specs.declared.tokens.HeadCall.{HeadCall}
 use Rattle.undo_log.specs.declared.tokens.HeadCall.TheVariants.{Len, Snapshot, Commit, Keys, Actions, Changes}
 use Rattle.undo_log.specs.declared.tokens.Settled.{Settled}
@@ -25,7 +25,7 @@ module _ (s : State) (a : Answer) where
   after_kept = after_moved (head_of s) (omega arith)
 
 -- A question about a mark that is there.
-pub asked_fit : (h : Head) (reply : Mark → Answer) (s : Sought) (m : Mark) (a : Answer) (r : Settled) → s ≡ Held m → a ≡ reply m
+pub asked_fit : (h : Head) (reply : Mark → Answer) (s : Sought) (m : Mark) (a : Answer) (r : Settled) → s ≡ Some m → a ≡ reply m
     → r ≡ refuse_head (unfit h m) BROKEN-TABLE h (settled a h) → r ≡ asked_on h reply s
 asked_fit h reply s m a r there e q = rw there (q ∙ ap (λ (x : Answer). refuse_head (unfit h m) BROKEN-TABLE h (settled x h)) e)
 
@@ -56,7 +56,7 @@ module _ (s : State) where
   settle_committed : settle s (settled (refusal DONE) (committed (head_of s))) ≡ answered (refusal DONE) (with_head s (committed (head_of s)))
   settle_committed = rw (after_moved s (refusal DONE) (committed (head_of s)) (omega arith))
 
-  commit_by : (token : ℕ) (b : Bool) → not_innermost s token ≡ b → settle s (commit_on (head_of s) (cond b Missing (Held (innermost s)))) ≡ commit s token
+  commit_by : (token : ℕ) (b : Bool) → not_innermost s token ≡ b → settle s (commit_on (head_of s) (cond b None (Some (innermost s)))) ≡ commit s token
   commit_by token true e = rw e (settle_kept s (refusal NOT-INNERMOST))
   commit_by token false e =
       let broken = unfit (head_of s) (innermost s) || stranded (head_of s) (innermost s) in
@@ -70,8 +70,8 @@ module _ (s : State) where
     settle_ask reply e = by_mark m ∙ ap (asked s reply) (sym e)
       where
         by_mark : (k : Sought) → settle s (asked_on (head_of s) reply k) ≡ asked s reply k
-        by_mark Missing = settle_kept s (refusal NOT-OPEN)
-        by_mark (Held k) =
+        by_mark None = settle_kept s (refusal NOT-OPEN)
+        by_mark (Some k) =
             let broken = unfit (head_of s) k in
             settle_refuse s broken BROKEN-TABLE _ ∙ ap (refuse_state broken BROKEN-TABLE s) (settle_kept s (reply k))
 

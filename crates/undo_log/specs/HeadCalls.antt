@@ -4,7 +4,7 @@ use Rattle.kit.specs.Names.{ℕ, eqb, ltb}
 use Rattle.rules.specs.Rules.{Answer, Answered, Call, Head, Mark, Sought, State, DONE, NOT-INNERMOST, TOO-DEEP, BROKEN-TABLE, SERIALS-SPENT, NOT-OPEN, MAX-OPEN}
 use Rattle.rules.specs.Rules.{MAX-U64, head, refusal, said, range, opened, unfit, stranded, committed, len, snapshot, commit, keys_since, actions_since, has_changes}
 use Rattle.rules.specs.declared.call.Call.TheVariants as call
-use Rattle.rules.specs.declared.table.Sought.TheVariants.{Missing, Held}
+use Rattle.std.specs.Prelude.{None, Some}
 use Rattle.undo_log.specs.declared.tokens.HeadCall.{HeadCall}
 use Rattle.undo_log.specs.declared.tokens.HeadCall.TheVariants.{Len, Snapshot, Commit, Keys, Actions, Changes}
 use Rattle.undo_log.specs.declared.tokens.Settled.{Settled}
@@ -35,12 +35,12 @@ snapshot_on h l =
     (settled (opened (l + 1)) (head h.count h.used (h.«open» + 1))))
 
 abbrev pub commit_on : Head → Sought → Settled
-commit_on h Missing = settled (refusal NOT-INNERMOST) h
-commit_on h (Held m) = refuse_head (unfit h m || stranded h m) BROKEN-TABLE h (settled (refusal DONE) (committed h))
+commit_on h None = settled (refusal NOT-INNERMOST) h
+commit_on h (Some m) = refuse_head (unfit h m || stranded h m) BROKEN-TABLE h (settled (refusal DONE) (committed h))
 
 abbrev pub asked_on : Head → (Mark → Answer) → Sought → Settled
-asked_on h reply Missing = settled (refusal NOT-OPEN) h
-asked_on h reply (Held m) = refuse_head (unfit h m) BROKEN-TABLE h (settled (reply m) h)
+asked_on h reply None = settled (refusal NOT-OPEN) h
+asked_on h reply (Some m) = refuse_head (unfit h m) BROKEN-TABLE h (settled (reply m) h)
 
 unfoldable pub on_head : Head → ℕ → Sought → HeadCall → Settled
 on_head h l m Len = settled (range 0 h.count) h

@@ -2,7 +2,7 @@
 use Rattle.kit.specs.Names.{Bool, cond, List, ℕ, set, ltb}
 use Rattle.rules.specs.Rules.{Answer, Call, Head, Mark, Sought, State, MAX-OPEN, mark, refusal, innermost, not_innermost, seek}
 use Rattle.rules.specs.declared.call.Call.TheVariants.{New, Len, Find, Unioned, Join, Post, Probe, ProbeKey, TryProbe, Snapshot, Rollback, Commit, Keys, Actions, Changes}
-use Rattle.rules.specs.declared.table.Sought.TheVariants.{Missing, Held}
+use Rattle.std.specs.Prelude.{None, Some}
 use Rattle.undo_log.specs.declared.tokens.Settled.{Settled}
 
 abbrev pub settled : Answer → Head → Settled
@@ -26,19 +26,19 @@ state_after s r =
 
 -- The innermost one, where the token is its own.
 abbrev pub latest : State → ℕ → Sought
-latest s token = cond (not_innermost s token) Missing (Held (innermost s))
+latest s token = cond (not_innermost s token) None (Some (innermost s))
 
 abbrev pub mark_of : State → Call → Sought
-mark_of s (New owner amount) = Missing
-mark_of s Len = Missing
-mark_of s (Find key) = Missing
-mark_of s (Unioned a b) = Missing
-mark_of s (Join a b) = Missing
-mark_of s (Post key owner amount) = Missing
-mark_of s (Probe key) = Missing
-mark_of s (ProbeKey key) = Missing
-mark_of s (TryProbe key) = Missing
-mark_of s Snapshot = Missing
+mark_of s (New owner amount) = None
+mark_of s Len = None
+mark_of s (Find key) = None
+mark_of s (Unioned a b) = None
+mark_of s (Join a b) = None
+mark_of s (Post key owner amount) = None
+mark_of s (Probe key) = None
+mark_of s (ProbeKey key) = None
+mark_of s (TryProbe key) = None
+mark_of s Snapshot = None
 mark_of s (Rollback token) = latest s token
 mark_of s (Commit token) = latest s token
 mark_of s (Keys token) = seek s token s.«open»
@@ -47,4 +47,4 @@ mark_of s (Changes token) = seek s token s.«open»
 
 -- None where more snapshots are open than there are marks: any call on such a state is refused.
 unfoldable pub mark_for : State → Call → Sought
-mark_for s c = cond (ltb MAX-OPEN s.«open») Missing (mark_of s c)
+mark_for s c = cond (ltb MAX-OPEN s.«open») None (mark_of s c)

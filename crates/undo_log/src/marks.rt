@@ -7,8 +7,5 @@ use rules::table::{Head, Mark};
 pub fn unfit(head: Head, mark: Mark) -> bool
     ensures { result ≡ unfit head mark }
 {
-    if head.used < mark.log_len {
-        return true;
-    }
-    head.count < mark.keys
+    head.used < mark.log_len || head.count < mark.keys
 }

@@ -1,16 +1,15 @@
 // len, snapshot and commit over a head, the last serial and the mark in question.
 ghost use Rattle.std.specs.Prelude.{◌≡◌, ◌-◌, ◌≤◌};
-ghost use Rattle.rules.specs.Rules.{MAX-OPEN, refusal, range, stranded, committed};
+ghost use Rattle.rules.specs.Rules.{MAX-OPEN, code_of, refusal, range, stranded, committed};
 ghost use Rattle.undo_log.specs.Settled.{settled};
-ghost use Rattle.undo_log.specs.HeadCalls.{snapshot_on, commit_on};
+ghost use Rattle.undo_log.specs.HeadCalls.{head_call, snapshot_on, commit_on};
 
 use crate::marks::unfit;
 use makers::answer::{opened, range, refusal};
-use rules::call::Answer;
-use rules::numbers::{
-    BROKEN_TABLE, DONE, MAX_OPEN, MAX_U64, NOT_INNERMOST, SERIALS_SPENT, TOO_DEEP,
-};
-use rules::table::{Head, Mark, Sought};
+use rules::call::{Answer, Call};
+use rules::numbers::{DONE, MAX_OPEN, MAX_U64};
+use rules::refusal::Refusal;
+use rules::table::{Head, Mark};
 
 // What a call answers, and the head that it leaves.
 #[derive(Clone, Copy)]
@@ -19,7 +18,8 @@ pub struct Settled {
     pub head: Head,
 }
 
-#[derive(Drop)]
+// The calls that neither read nor write rows and entries.
+#[derive(Clone, Copy)]
 pub enum HeadCall {
     Len,
     Snapshot,
@@ -29,20 +29,39 @@ pub enum HeadCall {
     Changes(u64),
 }
 
+impl From<HeadCall> for Call {
+    ghost from_gives = { λ asked call. call ≡ head_call asked };
+
+    fn from(asked: HeadCall) -> Call {
+        match asked {
+            HeadCall::Len => Call::Len,
+            HeadCall::Snapshot => Call::Snapshot,
+            HeadCall::Commit(token) => Call::Commit(token),
+            HeadCall::Keys(token) => Call::Keys(token),
+            HeadCall::Actions(token) => Call::Actions(token),
+            HeadCall::Changes(token) => Call::Changes(token),
+        }
+    }
+}
+
 // A refusal leaves the head as it is.
-pub fn refused(no: u32, head: Head) -> Settled
-    ensures { result ≡ settled (refusal no) head }
+pub fn refused(why: Refusal, head: Head) -> Settled
+    ensures { result ≡ settled (refusal (code_of why)) head }
 {
-    let answer = refusal(no);
-    Settled { answer, head }
+    Settled {
+        answer: refusal(why.code()),
+        head,
+    }
 }
 
 // How many keys there are.
 pub fn len(head: Head) -> Settled
     ensures { result ≡ settled (range 0 head.count) head }
 {
-    let answer = range(0, head.count);
-    Settled { answer, head }
+    Settled {
+        answer: range(0, head.count),
+        head,
+    }
 }
 
 // Opens a snapshot; its token is the next serial.
@@ -51,21 +70,17 @@ pub fn snapshot(head: Head, last: u64) -> Settled
     ensures { result ≡ snapshot_on head last }
 {
     if head.open == MAX_OPEN {
-        return refused(TOO_DEEP, head);
+        return refused(Refusal::TooDeep, head);
     }
     if last == MAX_U64 {
-        return refused(SERIALS_SPENT, head);
+        return refused(Refusal::SerialsSpent, head);
     }
-    let serial = last + 1;
-    let answer = opened(serial);
-    let deeper = Head {
-        count: head.count,
-        used: head.used,
-        open: head.open + 1,
-    };
     Settled {
-        answer,
-        head: deeper,
+        answer: opened(last + 1),
+        head: Head {
+            open: head.open + 1,
+            ..head
+        },
     }
 }
 
@@ -73,20 +88,14 @@ pub fn snapshot(head: Head, last: u64) -> Settled
 pub fn closed(opened: u32) -> u32
     ensures { result ≡ opened - 1 }
 {
-    if opened == 0 {
-        return 0;
-    }
-    opened - 1
+    opened.saturating_sub(1)
 }
 
 // Whether the only open mark has entries before it, which emptying the log would lose.
 fn stranded(head: Head, mark: Mark) -> bool
     ensures { result ≡ stranded head mark }
 {
-    if head.open != 1 {
-        return false;
-    }
-    mark.log_len > 0
+    head.open == 1 && mark.log_len > 0
 }
 
 // The head once the innermost snapshot is closed and its entries are kept; closing the only one empties the log.
@@ -96,36 +105,25 @@ fn committed(head: Head) -> Head
     let open = closed(head.open);
     if head.open == 1 {
         return Head {
-            count: head.count,
             used: 0,
             open,
+            ..head
         };
     }
-    Head {
-        count: head.count,
-        used: head.used,
-        open,
-    }
+    Head { open, ..head }
 }
 
-pub fn commit(head: Head, sought: Sought) -> Settled
+pub fn commit(head: Head, sought: Option<Mark>) -> Settled
     ensures { result ≡ commit_on head sought }
 {
-    match sought {
-        Sought::Missing => refused(NOT_INNERMOST, head),
-        Sought::Held(mark) => {
-            if unfit(head, mark) {
-                return refused(BROKEN_TABLE, head);
-            }
-            if stranded(head, mark) {
-                return refused(BROKEN_TABLE, head);
-            }
-            let answer = refusal(DONE);
-            let after = committed(head);
-            Settled {
-                answer,
-                head: after,
-            }
-        }
+    let Some(mark) = sought else {
+        return refused(Refusal::NotInnermost, head);
+    };
+    if unfit(head, mark) || stranded(head, mark) {
+        return refused(Refusal::BrokenTable, head);
+    }
+    Settled {
+        answer: refusal(DONE),
+        head: committed(head),
     }
 }

@@ -1,31 +1,31 @@
 // The entries since a snapshot, undone newest first.
 ghost use Rattle.std.specs.Prelude.{◌≡◌, ◌-◌, ◌≤◌};
-ghost use Rattle.rules.specs.Rules.{newest_first, undo, rows_lent};
+ghost use Rattle.rules.specs.Rules.{entry_at, newest_first, undo, rows_in, log_in, SameParts};
+ghost use Rattle.parts.specs.Bounds.{InLog};
 ghost use Rattle.rollback.specs.Since.{Logged, Reversible};
 
-use parts::entries::entry_at;
+use rules::table::{Lent, UndoLog};
 use snapshot_vec::update::reverse;
 
-// Undoes the entries from `base` up to `used`.
-pub fn undo(
-    parents: &mut [u32],
-    crowns: &mut [u32],
-    amounts: &mut [u64],
-    log: &[u32],
-    base: u32,
-    used: u32,
-)
-    requires base_le_used { base ≤ used }
-    requires logged { Logged used log.now }
-    requires reversible { Reversible (rows_lent parents.old crowns.old amounts.old) (newest_first log.now base (used - base)) }
-    ensures { let rs = rows_lent parents.old crowns.old amounts.old in
-        let after = rows_lent parents.new crowns.new amounts.new in
-        after ≡ undo rs (newest_first log.now base (used - base)) }
+// Entry `i` of the lent log, by value.
+fn entry_at(lent: &Lent<'_>, i: u32) -> UndoLog
+    requires { InLog i (log_in lent.now) }
+    ensures { result ≡ entry_at (log_in lent.now) i }
 {
-    let mut left = used - base;
-    while left > 0 {
-        left -= 1;
-        let entry = entry_at(log, base + left);
-        reverse(parents, crowns, amounts, entry);
+    parts::entries::entry_at(lent.log, i)
+}
+
+// Undoes the entries from `base` up to `used`.
+pub fn undo(lent: &mut Lent<'_>, base: u32, used: u32)
+    requires base_le_used { base ≤ used }
+    requires logged { Logged used (log_in lent.old) }
+    requires reversible { Reversible (rows_in lent.old) (newest_first (log_in lent.old) base (used - base)) }
+    ensures same_parts { SameParts lent.old lent.new }
+    ensures rows { rows_in lent.new ≡ undo (rows_in lent.old) (newest_first (log_in lent.old) base (used - base)) }
+    ensures log { log_in lent.new ≡ log_in lent.old }
+{
+    for i in (base..used).rev() {
+        let entry = entry_at(lent, i);
+        reverse(lent, entry);
     }
 }

@@ -1,48 +1,27 @@
 #![tactic(auto)]
 
 ghost use Rattle.std.specs.Prelude.{◌≡◌, ◌+◌};
-ghost use Rattle.rules.specs.Rules.{value_of, summed, merge};
+ghost use Rattle.rules.specs.Rules.{summed, merge};
 
-use rules::numbers::MAX_U64;
-use rules::table::{Merged, Owner, Row, Value};
-
-// The value of a row.
-pub fn value_of(row: Row) -> Value
-    ensures { result ≡ value_of row }
-{
-    let owner = row.owner;
-    let amount = row.amount;
-    Value { owner, amount }
-}
+use rules::table::{MergeError, Owner, Value};
 
 // The merge of two values: ena's `UnifyValue::unify_values`. Owners are merged before the sum is judged.
 #[tactic(auto, unfolding(rules::specs::Merge::merge))]
-pub fn unify_values(a: Value, b: Value) -> Merged
+pub fn unify_values(a: Value, b: Value) -> Result<Value, MergeError>
     ensures { result ≡ merge a b }
 {
-    let first = a.owner;
-    let second = b.owner;
-    match first {
-        Owner::Nobody => summed(second, a.amount, b.amount),
-        Owner::Tenant(m) => match second {
-            Owner::Nobody => summed(first, a.amount, b.amount),
-            Owner::Tenant(n) => {
-                if m == n {
-                    return summed(first, a.amount, b.amount);
-                }
-                Merged::Clash
-            }
-        },
-    }
+    let owner = match (a.owner, b.owner) {
+        (Owner::Nobody, owner) | (owner, Owner::Nobody) => owner,
+        (Owner::Tenant(m), Owner::Tenant(n)) if m == n => a.owner,
+        (Owner::Tenant(_), Owner::Tenant(_)) => return Err(MergeError::Clash),
+    };
+    summed(owner, a.amount, b.amount)
 }
 
 // The sum on an owner, or `TooMuch` where it does not fit.
-fn summed(owner: Owner, a: u64, b: u64) -> Merged
+fn summed(owner: Owner, a: u64, b: u64) -> Result<Value, MergeError>
     ensures { result ≡ summed owner (a + b) }
 {
-    if a > MAX_U64 - b {
-        return Merged::TooMuch;
-    }
-    let amount = a + b;
-    Merged::Both(Value { owner, amount })
+    let amount = a.checked_add(b).ok_or(MergeError::TooMuch)?;
+    Ok(Value { owner, amount })
 }

@@ -1,45 +1,44 @@
 ghost use Rattle.std.specs.Prelude.{◌≡◌, false};
-ghost use Rattle.rules.specs.Rules.{rows_lent, table_lent, sizes_of, bad};
+ghost use Rattle.rules.specs.Rules.{rows_in, log_in, table_in, sizes_of, bad, SameParts};
 ghost use Rattle.decisions.specs.Sorted.{walk_call, LiveKeys};
 ghost use Rattle.decisions.specs.Decided.{FarCarried};
 
+use decisions::good::GoodTable;
 use decisions::sorted::WalkCall;
+use decisions::todo::with_used;
 use far::plan::far_plan;
-use makers::answer::refusal;
-use plans::verdict::Verdict;
-use rules::table::Head;
-use undo_log::tokens::Settled;
+use rules::table::{Head, Lent};
+use undo_log::tokens::{Settled, refused};
 
-// A call on live keys, whatever its walks: planned, and then rewritten.
-pub fn far(
-    parents: &mut [u32],
-    crowns: &mut [u32],
-    amounts: &mut [u64],
-    log: &mut [u32],
-    head: Head,
-    call: WalkCall,
-) -> Settled
-    requires head_value { bad (sizes_of (rows_lent parents.old crowns.old amounts.old) log.old) head ≡ false }
+// A call on live keys, whatever its walks: planned, and then rewritten. That nothing is bad is a clause for the reason that stands at
+// `table::call::call_good`.
+pub fn far(lent: &mut Lent<'_>, head: Head, call: WalkCall) -> Settled
+    requires head_value { bad (sizes_of (rows_in lent.old) (log_in lent.old)) head ≡ false }
     requires live_keys { LiveKeys head.count call }
-    ensures { let t = table_lent parents.old crowns.old amounts.old log.old in
-        let after = table_lent parents.new crowns.new amounts.new log.new in
-        FarCarried t after head (walk_call call) result }
+    ensures same_parts { SameParts lent.old lent.new }
+    ensures value { FarCarried (table_in lent.old) (table_in lent.new) head (walk_call call) result }
 {
-    let plan = far_plan(parents, crowns, amounts, log, head, call);
-    let verdict = plan.verdict;
-    let first = plan.first;
-    let second = plan.second;
-    match verdict {
-        Verdict::Refused(no) => {
-            let answer = refusal(no);
-            Settled { answer, head }
-        }
-        Verdict::Planned(answer, finish) => {
+    let table = GoodTable {
+        seen: lent.seen(),
+        head,
+    };
+    match far_plan(table, call) {
+        Err(why) => refused(why, head),
+        Ok(far) => {
             let used = enact::plan::enact(
-                parents, crowns, amounts, log, head.count, head.open, head.used, first, second,
-                finish,
+                lent,
+                head.count,
+                head.open,
+                head.used,
+                far.first,
+                far.second,
+                far.plan.finish,
             );
-            decisions::todo::with_used(Settled { answer, head }, used)
+            let settled = Settled {
+                answer: far.plan.answer,
+                head,
+            };
+            with_used(settled, used)
         }
     }
 }

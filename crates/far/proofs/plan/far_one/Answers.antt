@@ -1,48 +1,51 @@
 -- The walk is traced; what is made of it is planned by `FarLaws`.
-use Rattle.rules.specs.Rules.{rows_lent}
-use Rattle.parts.proofs.BoundLaws.{even_row}
+use Rattle.std.proofs.Common.{rules}
+use Rattle.std.specs.Prelude.{◌≡◌, Ok, Err}
+use Rattle.kit.specs.Names.{refl, sym, ◌∙◌}
+use Rattle.rules.specs.Rules.{rows_seen, log_seen}
 use Rattle.roots.specs.Trail.{root_of}
 use Rattle.roots.proofs.TrailLaws.{trail_root}
-use Rattle.decisions.proofs.FitLaws.{good_used, good_even}
+use Rattle.decisions.proofs.GoodLaws.{table_row}
 use Rattle.far.proofs.FarLaws.{one_lost, one_planned}
 use Rattle.far.proofs.plan.far_one.Goals as goal
 
-pub trace-first-requires : goal.trace-first-requires
-trace-first-requires c =
+pub returns-in_default : goal.returns-in_default
+returns-in_default c =
     let a = c.args in
-    let rs = rows_lent a.parents.now a.crowns.now a.amounts.now in
-    (good_even rs a.log.now a.head c.requires.head_value).parents
-
-pub returns-then-not-first : goal.returns-then-not-first
-returns-then-not-first c =
-    let a = c.args in
-    let rs = rows_lent a.parents.now a.crowns.now a.amounts.now in
-    let t = c.trace-first in
-    one_lost rs a.log.now a.head c.requires.head_value a.key c.requires.key_lt_count a.call t.result c.idle-second.result
-    t.ensures.result_value t.ensures.short c.if-not-first.true
+    let t = a.table in
+    one_lost (rows_seen t.seen) (log_seen t.seen) t.head t.good a.key c.requires a.call c.in_default.ensures.result_value
 
 pub one_plan-plan-requires : goal.one_plan-plan-requires
 one_plan-plan-requires c =
     let a = c.args in
-    let rs = rows_lent a.parents.now a.crowns.now a.amounts.now in
-    let t = c.trace-first in
-    even_row rs a.head.count (root_of t.result) (good_even rs a.log.now a.head c.requires.head_value)
-    (trail_root rs.parents a.head.count t.result a.key t.ensures.result_value c.if-not-first.false t.ensures.short)
+    let t = a.table in
+    let rs = rows_seen t.seen in
+    let f = c.in-Some in
+    table_row t (root_of f.first)
+    (trail_root rs.parents t.head.count f.first a.key f.ensures.result_value f.ensures.short)
 
-pub fitted-verdict-requires-clause-used_le_room : goal.fitted-verdict-requires-clause-used_le_room
-fitted-verdict-requires-clause-used_le_room c =
+pub returns-in_err-plan : goal.returns-in_err-plan
+returns-in_err-plan c =
     let a = c.args in
-    let rs = rows_lent a.parents.now a.crowns.now a.amounts.now in
-    good_used rs a.log.now a.head c.requires.head_value
+    let t = a.table in
+    let rs = rows_seen t.seen in
+    let f = c.in-Some in
+    let p = c.one_plan-plan in
+    let root = trail_root rs.parents t.head.count f.first a.key f.ensures.result_value f.ensures.short in
+    let same : c.from_residual.result ≡ Err c.in_err-plan.field-0.0 = search rules in
+    rw same
+    (one_planned rs (log_seen t.seen) t.head t.good a.key c.requires a.call f.first (record { steps = 0; nodes = f.first.nodes })
+    f.ensures.result_value f.ensures.short (record { steps = refl; size = f.ensures.short.size }) (Ok p.result) _ p.ensures.fact
+    (p.ensures.by_index t.head.count root) _ c.saturating_sub.ensures (sym c.in_err-plan.was ∙ c.fitted.ensures))
 
 pub returns : goal.returns
 returns c =
     let a = c.args in
-    let rs = rows_lent a.parents.now a.crowns.now a.amounts.now in
-    let t = c.trace-first in
+    let t = a.table in
+    let rs = rows_seen t.seen in
+    let f = c.in-Some in
     let p = c.one_plan-plan in
-    let found = c.if-not-first.false in
-    let root = trail_root rs.parents a.head.count t.result a.key t.ensures.result_value found t.ensures.short in
-    one_planned rs a.log.now a.head c.requires.head_value a.key c.requires.key_lt_count a.call t.result c.idle-second.result
-    t.ensures.result_value t.ensures.short found c.idle-second.ensures p.result c.fitted-verdict.result p.ensures.fact
-    (p.ensures.by_index a.head.count root) c.rewrites.result c.rewrites.ensures c.fitted-verdict.ensures
+    let root = trail_root rs.parents t.head.count f.first a.key f.ensures.result_value f.ensures.short in
+    one_planned rs (log_seen t.seen) t.head t.good a.key c.requires a.call f.first c.idle.result f.ensures.result_value f.ensures.short
+    c.idle.ensures (Ok p.result) (Ok c.in_ok-plan.plan) p.ensures.fact (p.ensures.by_index t.head.count root) _ c.saturating_sub.ensures
+    (sym c.in_ok-plan.was ∙ c.fitted.ensures)

@@ -1,79 +1,77 @@
 -- Both walks are traced; what is made of them is planned by `FarLaws`.
-use Rattle.rules.specs.Rules.{rows_lent}
-use Rattle.parts.proofs.BoundLaws.{even_row}
+use Rattle.std.specs.Prelude.{◌≡◌, Ok, Err}
+use Rattle.std.proofs.Common.{rules}
+use Rattle.kit.specs.Names.{sym, ◌∙◌}
+use Rattle.rules.specs.Rules.{rows_seen, log_seen}
 use Rattle.roots.specs.Trail.{root_of, compressed}
 use Rattle.roots.proofs.TrailLaws.{trail_root}
-use Rattle.decisions.proofs.FitLaws.{good_used, good_even}
+use Rattle.decisions.proofs.GoodLaws.{table_row}
 use Rattle.far.proofs.FarLaws.{two_first_lost, two_second_lost, two_planned}
 use Rattle.far.proofs.plan.far_two.Goals as goal
 
-pub trace-first-requires : goal.trace-first-requires
-trace-first-requires c =
+pub returns-in_default : goal.returns-in_default
+returns-in_default c =
     let a = c.args in
-    let rs = rows_lent a.parents.now a.crowns.now a.amounts.now in
-    (good_even rs a.log.now a.head c.requires.head_value).parents
-
-pub returns-then-not-first : goal.returns-then-not-first
-returns-then-not-first c =
-    let a = c.args in
+    let t = a.table in
     let r = c.requires in
-    let rs = rows_lent a.parents.now a.crowns.now a.amounts.now in
-    let t = c.trace-first in
-    two_first_lost rs a.log.now a.head r.head_value a.a a.b r.a_lt_count r.b_lt_count a.call t.result t.ensures.result_value t.ensures.short
-    c.idle.result c.if-not-first.true
+    two_first_lost (rows_seen t.seen) (log_seen t.seen) t.head t.good a.a a.b r.a_lt_count r.b_lt_count a.call c.in_default.ensures.result_value
 
-pub trace_after-second-requires-clause-count_in_bounds : goal.trace_after-second-requires-clause-count_in_bounds
-trace_after-second-requires-clause-count_in_bounds c =
+pub returns-in_default-trace_after : goal.returns-in_default-trace_after
+returns-in_default-trace_after c =
     let a = c.args in
-    let rs = rows_lent a.parents.now a.crowns.now a.amounts.now in
-    (good_even rs a.log.now a.head c.requires.head_value).parents
-
-pub returns-then-not-second : goal.returns-then-not-second
-returns-then-not-second c =
-    let a = c.args in
+    let t = a.table in
     let r = c.requires in
-    let rs = rows_lent a.parents.now a.crowns.now a.amounts.now in
-    let t = c.trace-first in
-    let u = c.trace_after-second in
-    two_second_lost rs a.log.now a.head r.head_value a.a a.b r.a_lt_count r.b_lt_count a.call t.result t.ensures.result_value t.ensures.short
-    c.if-not-first.false u.result u.ensures.result_value c.if-not-second.true
+    let f = c.in-Some in
+    two_second_lost (rows_seen t.seen) (log_seen t.seen) t.head t.good a.a a.b r.a_lt_count r.b_lt_count a.call f.first f.ensures.result_value
+    f.ensures.short c.in_default-trace_after.ensures.result_value
 
-pub two_plan-plan-requires-clause-in_rows : goal.two_plan-plan-requires-clause-in_rows
-two_plan-plan-requires-clause-in_rows c =
+pub two_plan-verdict-requires-clause-in_rows : goal.two_plan-verdict-requires-clause-in_rows
+two_plan-verdict-requires-clause-in_rows c =
     let a = c.args in
-    let rs = rows_lent a.parents.now a.crowns.now a.amounts.now in
-    let t = c.trace-first in
-    even_row rs a.head.count (root_of t.result) (good_even rs a.log.now a.head c.requires.head_value)
-    (trail_root rs.parents a.head.count t.result a.a t.ensures.result_value c.if-not-first.false t.ensures.short)
+    let t = a.table in
+    let rs = rows_seen t.seen in
+    let f = c.in-Some in
+    table_row t (root_of f.first)
+    (trail_root rs.parents t.head.count f.first a.a f.ensures.result_value f.ensures.short)
 
-pub two_plan-plan-requires-clause-in_rows_2 : goal.two_plan-plan-requires-clause-in_rows_2
-two_plan-plan-requires-clause-in_rows_2 c =
+pub two_plan-verdict-requires-clause-in_rows_2 : goal.two_plan-verdict-requires-clause-in_rows_2
+two_plan-verdict-requires-clause-in_rows_2 c =
     let a = c.args in
-    let rs = rows_lent a.parents.now a.crowns.now a.amounts.now in
-    let t = c.trace-first in
-    let u = c.trace_after-second in
-    even_row rs a.head.count (root_of u.result) (good_even rs a.log.now a.head c.requires.head_value)
-    (trail_root (compressed t.result rs.parents) a.head.count u.result a.b u.ensures.result_value c.if-not-second.false u.ensures.short_2)
+    let t = a.table in
+    let rs = rows_seen t.seen in
+    let f = c.in-Some in
+    let s = c.in-Some-trace_after in
+    table_row t (root_of s.second)
+    (trail_root (compressed f.first rs.parents) t.head.count s.second a.b s.ensures.result_value s.ensures.short_2)
 
-pub fitted-verdict-requires-clause-used_le_room : goal.fitted-verdict-requires-clause-used_le_room
-fitted-verdict-requires-clause-used_le_room c =
+pub returns-in_err-plan : goal.returns-in_err-plan
+returns-in_err-plan c =
     let a = c.args in
-    let rs = rows_lent a.parents.now a.crowns.now a.amounts.now in
-    good_used rs a.log.now a.head c.requires.head_value
+    let t = a.table in
+    let r = c.requires in
+    let rs = rows_seen t.seen in
+    let f = c.in-Some in
+    let s = c.in-Some-trace_after in
+    let p = c.two_plan-verdict in
+    let root-a = trail_root rs.parents t.head.count f.first a.a f.ensures.result_value f.ensures.short in
+    let root-b = trail_root (compressed f.first rs.parents) t.head.count s.second a.b s.ensures.result_value s.ensures.short_2 in
+    let same : c.from_residual.result ≡ Err c.in_err-plan.field-0.0 = search rules in
+    rw same
+    (two_planned rs (log_seen t.seen) t.head t.good a.a a.b r.a_lt_count r.b_lt_count a.call f.first f.ensures.result_value f.ensures.short
+    s.second s.ensures.result_value s.ensures.short_2 p.result _ p.ensures.fact (p.ensures.by_index t.head.count root-a root-b)
+    _ _ c.saturating_sub.ensures c.saturating_sub-2.ensures (sym c.in_err-plan.was ∙ c.fitted.ensures))
 
 pub returns : goal.returns
 returns c =
     let a = c.args in
+    let t = a.table in
     let r = c.requires in
-    let rs = rows_lent a.parents.now a.crowns.now a.amounts.now in
-    let t = c.trace-first in
-    let u = c.trace_after-second in
-    let p = c.two_plan-plan in
-    let first = c.if-not-first.false in
-    let second = c.if-not-second.false in
-    let root-a = trail_root rs.parents a.head.count t.result a.a t.ensures.result_value first t.ensures.short in
-    let root-b = trail_root (compressed t.result rs.parents) a.head.count u.result a.b u.ensures.result_value second u.ensures.short_2 in
-    two_planned rs a.log.now a.head r.head_value a.a a.b r.a_lt_count r.b_lt_count a.call t.result t.ensures.result_value t.ensures.short
-    first u.result u.ensures.result_value second u.ensures.short_2 p.result c.fitted-verdict.result
-    p.ensures.fact (p.ensures.by_index a.head.count root-a root-b) c.rewrites.result c.rewrites-2.result
-    c.rewrites.ensures c.rewrites-2.ensures c.fitted-verdict.ensures
+    let rs = rows_seen t.seen in
+    let f = c.in-Some in
+    let s = c.in-Some-trace_after in
+    let p = c.two_plan-verdict in
+    let root-a = trail_root rs.parents t.head.count f.first a.a f.ensures.result_value f.ensures.short in
+    let root-b = trail_root (compressed f.first rs.parents) t.head.count s.second a.b s.ensures.result_value s.ensures.short_2 in
+    two_planned rs (log_seen t.seen) t.head t.good a.a a.b r.a_lt_count r.b_lt_count a.call f.first f.ensures.result_value f.ensures.short
+    s.second s.ensures.result_value s.ensures.short_2 p.result (Ok c.in_ok-plan.plan) p.ensures.fact (p.ensures.by_index t.head.count root-a root-b)
+    _ _ c.saturating_sub.ensures c.saturating_sub-2.ensures (sym c.in_ok-plan.was ∙ c.fitted.ensures)

@@ -1,26 +1,24 @@
 -- The ways on from the walk's head: out of the table, at a root, at the last redirect, and where the first path is met.
-use Rattle.std.proofs.Common.{arith, length-set}
+use Rattle.std.proofs.Common.{◌∙◌, arith, length-set}
 use Rattle.meeting.proofs.MeetingLaws.{after_out, after_root, after_spent, after_more, on_spent, on_more}
 use Rattle.meeting.proofs.after.trace_after.Goals as goal
-use Rattle.meeting.proofs.after.trace_after.Goals.{else-walk-test, then-walk-test+then-loop-j-test+then-passed-j}
+use Rattle.meeting.proofs.after.trace_after.Goals.{else-walk-test, then-walk-test+then-loop-node-test+then-node-at, then-at-count-via-then-at-count, then-at-count-via-else-at-count+then-steps-eq16-2}
 
 pub returns-then-parent-at-clause-result_value : goal.returns-then-parent-at-clause-result_value
 returns-then-parent-at-clause-result_value c =
     let a = c.args in
     let r = c.requires in
     let w = c.walk in
-    after_root a.parents.now a.count a.a a.first r.count_in_bounds r.found_value r.first_value r.short a.key
-    w.at w.steps w.nodes w.invariant.0 w.invariant.1 w.invariant.2
-    c.walk-test.true (λ i lt. c.loop-j.invariant.1 i (omega arith)) c.if-parent-at.true
+    after_root a.parents.now a.count a.a a.first r.count_in_bounds r.first_value a.key w.at w.steps w.nodes w.invariant.0 w.invariant.1 w.invariant.2
+    c.walk-test.true (λ i lt. c.loop-node.invariant i (omega (arith, lt, c.loop-node-test.false))) c.if-parent-at.true
 
 pub returns-then-steps-eq16-clause-result_value : goal.returns-then-steps-eq16-clause-result_value
 returns-then-steps-eq16-clause-result_value c =
     let a = c.args in
     let r = c.requires in
     let w = c.walk in
-    after_spent a.parents.now a.count a.a a.first r.count_in_bounds r.found_value r.first_value r.short a.key
-    w.at w.steps w.nodes w.invariant.0 w.invariant.1 w.invariant.2
-    c.walk-test.true (λ i lt. c.loop-j.invariant.1 i (omega arith)) c.if-steps-eq16.true c.if-parent-at.false
+    after_spent a.parents.now a.count a.a a.first r.count_in_bounds r.first_value a.key w.at w.steps w.nodes w.invariant.0 w.invariant.1 w.invariant.2
+    c.walk-test.true (λ i lt. c.loop-node.invariant i (omega (arith, lt, c.loop-node-test.false))) c.if-parent-at.false c.if-steps-eq16.true
 
 pub walk-preserved : goal.walk-preserved
 walk-preserved c =
@@ -28,10 +26,10 @@ walk-preserved c =
     let r = c.requires in
     let w = c.walk in (
       omega (arith, c.if-steps-eq16.false),
-      simp length-set (omega arith),
-      after_more a.parents.now a.count a.a a.first r.count_in_bounds r.found_value r.first_value r.short a.key
-          w.at w.steps w.nodes w.invariant.0 w.invariant.1 w.invariant.2
-          c.walk-test.true (λ i lt. c.loop-j.invariant.1 i (omega arith)) c.if-steps-eq16.false c.if-parent-at.false,
+      length-set w.nodes w.steps w.at ∙ w.invariant.1,
+      after_more a.parents.now a.count a.a a.first r.count_in_bounds r.first_value a.key w.at w.steps w.nodes w.invariant.0 w.invariant.1 w.invariant.2
+          c.walk-test.true (λ i lt. c.loop-node.invariant i (omega (arith, lt, c.loop-node-test.false))) c.if-parent-at.false
+          c.if-steps-eq16.false,
     )
 
 pub returns-then-at-count-clause-result_value : goal.returns-then-at-count-clause-result_value
@@ -39,20 +37,16 @@ returns-then-at-count-clause-result_value c =
     let a = c.args in
     let r = c.requires in
     let w = c.walk in
-    after_out a.parents.now a.count a.a a.first r.count_in_bounds r.found_value r.first_value r.short a.key
-    w.at w.steps w.nodes w.invariant.0 w.invariant.1 w.invariant.2 c.if-at-count.true
-
-pub returns-then-steps-eq16-2-clause-result_value : goal.returns-then-steps-eq16-2-clause-result_value
-returns-then-steps-eq16-2-clause-result_value c =
-    let a = c.args in
-    let r = c.requires in
-    let w = c.walk in
-    elim c.walk-test.branch [
-      | else-walk-test b ↦ absurd (omega (arith, b.walk-test.false, c.if-at-count.false))
-      | then-walk-test+then-loop-j-test+then-passed-j b ↦
-          on_spent a.parents.now a.count a.a a.first r.count_in_bounds r.found_value r.first_value r.short a.key
-          w.at w.steps w.nodes w.invariant.0 w.invariant.1 w.invariant.2
-          c.if-at-count.false b.loop-j.j b.loop-j-test.true b.if-passed-j.true c.if-steps-eq16-2.true
+    elim c.then-at-count.branch [
+      | then-at-count-via-then-at-count d ↦
+          after_out a.parents.now a.count a.a a.first r.count_in_bounds r.first_value a.key w.at w.steps w.nodes w.invariant.0 w.invariant.1 w.invariant.2
+          d.if-at-count.true
+      | then-at-count-via-else-at-count+then-steps-eq16-2 d ↦ elim c.walk-test.branch [
+        | else-walk-test b ↦ absurd (omega (arith, b.walk-test.false, d.if-at-count.false))
+        | then-walk-test+then-loop-node-test+then-node-at b ↦
+            on_spent a.parents.now a.count a.a a.first r.count_in_bounds r.first_value a.key w.at w.steps w.nodes w.invariant.0 w.invariant.1
+            w.invariant.2 d.if-at-count.false b.loop-node.node-index b.loop-node-test.true b.if-node-at.true d.if-steps-eq16-2.true
+      ]
     ]
 
 pub returns-clause-result_value : goal.returns-clause-result_value
@@ -62,9 +56,8 @@ returns-clause-result_value c =
     let w = c.walk in
     elim c.walk-test.branch [
       | else-walk-test b ↦ absurd (omega (arith, b.walk-test.false, c.if-at-count.false))
-      | then-walk-test+then-loop-j-test+then-passed-j b ↦
+      | then-walk-test+then-loop-node-test+then-node-at b ↦
           rw b.nodes-is
-          (on_more a.parents.now a.count a.a a.first r.count_in_bounds r.found_value r.first_value r.short a.key
-          w.at w.steps w.nodes w.invariant.0 w.invariant.1 w.invariant.2
-          c.if-at-count.false b.loop-j.j b.loop-j-test.true b.if-passed-j.true c.if-steps-eq16-2.false)
+          (on_more a.parents.now a.count a.a a.first r.count_in_bounds r.first_value a.key w.at w.steps w.nodes w.invariant.0 w.invariant.1
+          w.invariant.2 c.if-at-count.false b.loop-node.node-index b.loop-node-test.true b.if-node-at.true c.if-steps-eq16-2.false)
     ]

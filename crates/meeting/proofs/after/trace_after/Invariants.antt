@@ -10,14 +10,11 @@ abbrev pub invariant-walk : goal.invariant-walk
 invariant-walk l =
     (l.steps ≤ 16)
     × (length l.nodes ≡ 17)
-    × (path (compress l.root (take l.end l.passed) l.parents) l.count 16 l.key
-    ≡ along (take l.steps l.nodes) (path (compress l.root (take l.end l.passed) l.parents) l.count (16 - l.steps) l.at))
+    × (path (compress l.root l.passed l.parents) l.count 16 l.key
+    ≡ along (take l.steps l.nodes) (path (compress l.root l.passed l.parents) l.count (16 - l.steps) l.at))
 
 abbrev pub decreases-walk : goal.decreases-walk
 decreases-walk l = 16 - l.steps
 
-abbrev pub invariant-loop-j : goal.invariant-loop-j
-invariant-loop-j l = (l.j ≤ l.end) × ((i : ℕ) → i < l.j → get_or l.passed i 0 ≡ l.at → ⊥)
-
-abbrev pub decreases-loop-j : goal.decreases-loop-j
-decreases-loop-j l = l.end - l.j
+abbrev pub invariant-loop-node : goal.invariant-loop-node
+invariant-loop-node l = (i : ℕ) → i < l.node-index → get_or l.passed i 0 ≡ l.at → ⊥

@@ -1,77 +1,52 @@
--- The walks are found where `near_root` says so, and what is made of them is decided by `NearCalls`.
-use Rattle.std.specs.Prelude.{◌<◌, ◌≤◌}
-use Rattle.std.proofs.Common.{arith}
-use Rattle.rules.specs.Rules.{rows_lent}
-use Rattle.parts.proofs.BoundLaws.{even_row}
-use Rattle.roots.proofs.NearLaws.{not_lost}
-use Rattle.decisions.proofs.FitLaws.{good_used, good_even}
-use Rattle.kit.specs.Names.{false, not}
-use Rattle.std.specs.Prelude.{◌≡◌}
+-- Both walks are found where `near_root` says so, and what is made of them is decided by `NearCalls`.
+use Rattle.kit.specs.Names.{sym, ◌∙◌}
+use Rattle.rules.specs.Rules.{rows_seen, log_seen}
+use Rattle.roots.proofs.NearLaws.{near_found}
+use Rattle.decisions.proofs.GoodLaws.{table_row}
 use Rattle.near_one.proofs.NearCalls.{two_refused_first, two_refused_second, two_decided}
 use Rattle.near.proofs.calls.near_two.Goals as goal
+use Rattle.near.proofs.calls.near_two.Goals.{then-a-head-via-then-a-head, then-a-head-via-else-a-head+then-b-head}
 
 pub returns-then-a-head : goal.returns-then-a-head
 returns-then-a-head c last m =
     let a = c.args in
-    let rs = rows_lent a.parents.now a.crowns.now a.amounts.now in
-    rw c.refused.ensures (two_refused_first rs a.log.now a.head last m c.requires a.a a.b a.call c.if-a-head.true)
-
-pub returns-then-b-head : goal.returns-then-b-head
-returns-then-b-head c last m =
-    let a = c.args in
-    let rs = rows_lent a.parents.now a.crowns.now a.amounts.now in
-    let dead : a.head.count ≤ a.b = omega arith in
-    rw c.refused-then-b-head.ensures (two_refused_second rs a.log.now a.head last m c.requires a.a a.b a.call c.if-a-head.false dead)
-
-pub near_root-first-requires-clause-count_in_bounds : goal.near_root-first-requires-clause-count_in_bounds
-near_root-first-requires-clause-count_in_bounds c =
-    let a = c.args in
-    let rs = rows_lent a.parents.now a.crowns.now a.amounts.now in
-    (good_even rs a.log.now a.head c.requires).parents
-
-pub near_root-second-requires-clause-count_in_bounds : goal.near_root-second-requires-clause-count_in_bounds
-near_root-second-requires-clause-count_in_bounds c =
-    let a = c.args in
-    let rs = rows_lent a.parents.now a.crowns.now a.amounts.now in
-    (good_even rs a.log.now a.head c.requires).parents
+    let t = a.table in
+    rw c.refused.ensures
+    (elim c.then-a-head.branch [
+      | then-a-head-via-then-a-head w ↦
+          two_refused_first (rows_seen t.seen) (log_seen t.seen) t.head last m t.good a.a a.b a.call w.if-a-head.true
+      | then-a-head-via-else-a-head+then-b-head w ↦
+          two_refused_second (rows_seen t.seen) (log_seen t.seen) t.head last m t.good a.a a.b a.call w.if-a-head.false w.if-b-head.true
+    ])
 
 pub two_plan-plan-requires-clause-in_rows : goal.two_plan-plan-requires-clause-in_rows
 two_plan-plan-requires-clause-in_rows c =
     let a = c.args in
-    let rs = rows_lent a.parents.now a.crowns.now a.amounts.now in
-    let n = c.near_root-first in
-    let kept : not n.result.found ≡ false = cc in
-    let first = not_lost rs.parents a.head.count a.a c.if-a-head.false n.result n.ensures kept in
-    even_row rs a.head.count n.result.root (good_even rs a.log.now a.head c.requires) first.root
+    let t = a.table in
+    let rs = rows_seen t.seen in
+    let n = c.in-Some.first in
+    let first = near_found rs.parents t.head.count a.a c.if-a-head.false n (sym c.near_root.ensures ∙ c.in-Some.is) in
+    table_row t n.root first.root
 
 pub two_plan-plan-requires-clause-in_rows_2 : goal.two_plan-plan-requires-clause-in_rows_2
 two_plan-plan-requires-clause-in_rows_2 c =
     let a = c.args in
-    let rs = rows_lent a.parents.now a.crowns.now a.amounts.now in
-    let n = c.near_root-second in
-    let live : a.b < a.head.count = omega arith in
-    let kept : not n.result.found ≡ false = cc in
-    let second = not_lost rs.parents a.head.count a.b live n.result n.ensures kept in
-    even_row rs a.head.count n.result.root (good_even rs a.log.now a.head c.requires) second.root
-
-pub fitted-verdict-requires-clause-used_le_room : goal.fitted-verdict-requires-clause-used_le_room
-fitted-verdict-requires-clause-used_le_room c =
-    let a = c.args in
-    let rs = rows_lent a.parents.now a.crowns.now a.amounts.now in
-    good_used rs a.log.now a.head c.requires
+    let t = a.table in
+    let rs = rows_seen t.seen in
+    let n = c.in-Some-near_root.second in
+    let second = near_found rs.parents t.head.count a.b c.if-b-head.false n (sym c.near_root-2.ensures ∙ c.in-Some-near_root.is) in
+    table_row t n.root second.root
 
 pub returns : goal.returns
 returns c last m =
     let a = c.args in
-    let rs = rows_lent a.parents.now a.crowns.now a.amounts.now in
-    let n = c.near_root-first in
-    let k = c.near_root-second in
+    let t = a.table in
+    let rs = rows_seen t.seen in
+    let n = c.in-Some.first in
+    let k = c.in-Some-near_root.second in
     let p = c.two_plan-plan in
-    let live : a.b < a.head.count = omega arith in
-    let kept : not n.result.found ≡ false = cc in
-    let first = not_lost rs.parents a.head.count a.a c.if-a-head.false n.result n.ensures kept in
-    let kept-too : not k.result.found ≡ false = cc in
-    let second = not_lost rs.parents a.head.count a.b live k.result k.ensures kept-too in
-    rw (c.from_verdict.ensures, c.fitted-verdict.ensures)
-    (two_decided rs a.log.now a.head last m c.requires a.a a.b a.call c.if-a-head.false live n.result k.result first second p.result
+    let first = near_found rs.parents t.head.count a.a c.if-a-head.false n (sym c.near_root.ensures ∙ c.in-Some.is) in
+    let second = near_found rs.parents t.head.count a.b c.if-b-head.false k (sym c.near_root-2.ensures ∙ c.in-Some-near_root.is) in
+    rw (c.from_verdict.ensures, c.fitted.ensures)
+    (two_decided rs (log_seen t.seen) t.head last m t.good a.a a.b a.call c.if-a-head.false c.if-b-head.false n k first second p.result
     p.ensures.fact p.ensures.by_index)

@@ -1,38 +1,42 @@
 -- The rows are logged one by one, the nearest to the root first.
-use Rattle.std.proofs.Common.{◌≡◌, refl, ap, ◌-◌, ◌<◌, arith, ne_eqb}
-use Rattle.rules.specs.Rules.{MAX-REDIRECTS, Memory, rows_lent, memory_lent}
-use Rattle.rewrites.proofs.LogLaws.{saves_idle, logging_starts, logging_goes_on, node_in}
+use Rattle.std.proofs.Common.{◌-◌, ◌<◌, refl, arith, rules}
+use Rattle.rules.specs.Rules.{MAX-REDIRECTS, memory_in}
+use Rattle.rewrites.proofs.LogLaws.{logging_starts, logging_goes_on, logged_all, node_in}
 use Rattle.rewrites.proofs.walk.log_walk.Goals as goal
 
-pub returns-then-left-eq0 : goal.returns-then-left-eq0
-returns-then-left-eq0 c =
-    let a = c.args in
-    saves_idle a.trail (memory_lent a.parents.now a.crowns.now a.amounts.now a.log.now a.opened a.used) c.if-left-eq0.true
-
-pub loop-left-init : goal.loop-left-init
-loop-left-init c =
+pub loop-i-init : goal.loop-i-init
+loop-i-init c =
     let a = c.args in
     let s = c.requires.sound.short in
     let low : a.trail.steps - 1 < MAX-REDIRECTS = omega (arith, s.steps) in
-    logging_starts (rows_lent a.parents.now a.crowns.now a.amounts.now) a.log.now a.opened a.used a.trail.nodes (a.trail.steps - 1) s.size low
+    record {
+      same_parts = (refl, refl, refl, refl);
+      logging = rw c.saturating_sub-i.ensures (logging_starts (memory_in a.lent.now a.opened a.used) a.trail.nodes (a.trail.steps - 1) s.size low);
+    }
 
 pub log_row-more-requires-clause-in_rows : goal.log_row-more-requires-clause-in_rows
 log_row-more-requires-clause-in_rows c =
     let a = c.args in
-    let l = c.loop-left in
-    let some : 0 < a.trail.steps = omega arith in
-    let is_open : a.opened ≡ 0 → ⊥ = omega arith in
-    node_in (rows_lent a.parents.now a.crowns.now a.amounts.now) a.log.now a.opened a.used a.count a.trail c.requires.sound is_open
-    c.requires.ready (a.trail.steps - 1) refl some l.log l.left l.more l.invariant c.loop-left-test.true
+    let l = c.loop-i in
+    node_in (memory_in a.lent.now a.opened a.used) a.count a.trail c.requires.sound (omega arith) c.requires.ready
+    (memory_in l.lent a.opened l.more) l.i l.invariant.logging c.loop-i-test.true
 
-pub loop-left-preserved : goal.loop-left-preserved
-loop-left-preserved c =
+pub loop-i-preserved : goal.loop-i-preserved
+loop-i-preserved c =
     let a = c.args in
-    let l = c.loop-left in
+    let l = c.loop-i in
     let s = c.requires.sound.short in
     let low : a.trail.steps - 1 < MAX-REDIRECTS = omega (arith, s.steps) in
-    let is_open : a.opened ≡ 0 → ⊥ = omega arith in
-    let u = ap (λ (m : Memory). m.used) c.log_row-more.ensures in
-    logging_goes_on (rows_lent a.parents.now a.crowns.now a.amounts.now) a.log.now a.opened a.used a.trail.nodes (a.trail.steps - 1) s.size low
-    l.log l.left l.more l.invariant c.loop-left-test.true _ _ c.log_row-more.ensures (rw (ne_eqb a.opened 0 is_open) at u)
-    c.log_row-more.auto.log
+    record {
+      same_parts = search rules;
+      logging =
+          logging_goes_on (memory_in a.lent.now a.opened a.used) a.trail.nodes (a.trail.steps - 1) s.size low (memory_in l.lent a.opened l.more) l.i
+          l.invariant.logging c.loop-i-test.true _ c.log_row-more.ensures.value (omega arith);
+    }
+
+pub returns-clause-value : goal.returns-clause-value
+returns-clause-value c =
+    let a = c.args in
+    let l = c.loop-i in
+    logged_all (memory_in a.lent.now a.opened a.used) a.trail c.requires.sound.short (memory_in l.lent a.opened l.more) l.i l.invariant.logging
+    (omega arith)

@@ -1,12 +1,12 @@
--- The rows from `left` on are logged.
+-- The rows from i on are logged.
 use Rattle.std.proofs.Common.{◌-◌}
-use Rattle.rules.specs.Rules.{rows_lent}
+use Rattle.rules.specs.Rules.{memory_in, SameParts}
 use Rattle.rewrites.proofs.LogLaws.{Logging}
 use Rattle.rewrites.proofs.walk.log_walk.Given as goal
 
-abbrev pub invariant-loop-left : goal.invariant-loop-left
-invariant-loop-left l =
-    Logging (rows_lent l.parents l.crowns l.amounts) l.fn.log l.opened l.used l.fn.trail.nodes (l.fn.trail.steps - 1) l.log l.left l.more
-
-abbrev pub decreases-loop-left : goal.decreases-loop-left
-decreases-loop-left l = l.left
+abbrev pub invariant-loop-i : goal.invariant-loop-i
+invariant-loop-i l =
+    record {
+      same_parts : SameParts l.fn.lent l.lent;
+      logging : Logging (memory_in l.fn.lent l.opened l.used) l.trail.nodes (l.trail.steps - 1) (memory_in l.lent l.opened l.more) l.i;
+    }

@@ -1,13 +1,10 @@
 -- The new key is logged, and then its row is made.
-use Rattle.rules.specs.Rules.{rows_lent, memory_lent}
-use Rattle.snapshot_vec.proofs.UpdateLaws.{push_is}
+use Rattle.std.proofs.Common.{ap}
+use Rattle.rules.specs.Rules.{Memory, memory, put_row, rows_in}
 use Rattle.snapshot_vec.proofs.update.push.Goals as goal
 
-pub returns : goal.returns
-returns c =
-    let a = c.args in
-    let rs = rows_lent a.parents.now a.crowns.now a.amounts.now in
-    let m = memory_lent a.parents.now a.crowns.now a.amounts.now a.log.now a.opened a.used in
-    let m' = memory_lent a.parents.now a.crowns.now a.amounts.now c.log_entry-more.new.log a.opened c.log_entry-more.result in
-    let rs' = rows_lent c.put_row.new.parents c.put_row.new.crowns c.put_row.new.amounts in
-    push_is m a.key a.row m' rs' (c.log_entry-more.ensures rs) c.put_row.ensures
+pub returns-clause-value : goal.returns-clause-value
+returns-clause-value c =
+    let rs = rows_in c.args.lent.now in
+    let made : Memory → Memory = λ m. memory (put_row rs c.args.key c.args.row) m.log m.opened m.used in
+    rw (c.put_row.ensures.log, c.put_row.ensures.rows) (ap made (c.log_entry-more.ensures rs))

@@ -1,10 +1,7 @@
--- The marks from `left` on are none of the token's.
-use Rattle.std.proofs.Common.{◌≡◌, ◌≤◌}
-use Rattle.rules.specs.Rules.{seek}
+-- The marks from `i` on are none of the token's.
+use Rattle.std.proofs.Common.{◌≡◌}
+use Rattle.rules.specs.Rules.{seek, with_head}
 use Rattle.sought.proofs.marks.seek.Given as goal
 
-abbrev pub invariant-loop-left : goal.invariant-loop-left
-invariant-loop-left l = (l.left ≤ 32) × (seek l.state l.token l.state.«open» ≡ seek l.state l.token l.left)
-
-abbrev pub decreases-loop-left : goal.decreases-loop-left
-decreases-loop-left l = l.left
+abbrev pub invariant-loop-i : goal.invariant-loop-i
+invariant-loop-i g l = let s = with_head (g.M.Marks.state l.marks) l.fn.head in seek s l.token l.i ≡ seek s l.token l.fn.head.«open»

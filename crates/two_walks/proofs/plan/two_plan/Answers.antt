@@ -1,10 +1,9 @@
 -- A join's plan is `join_roots`'s, at the rows that were read.
-use Rattle.rules.specs.Rules.{rows_lent}
+use Rattle.rules.specs.Rules.{rows_seen}
 use Rattle.two_walks.proofs.plan.two_plan.Goals as goal
 
 pub returns-else-a-b-clause-fact : goal.returns-else-a-b-clause-fact
 returns-else-a-b-clause-fact c =
-    let a = c.args in
     rw c.in-Join.is
-    (c.join_roots.ensures.joined c.if-a-b.false (rows_lent a.parents.now a.crowns.now a.amounts.now) c.row_at-row_a.ensures
+    (c.join_roots.ensures.joined c.if-a-b.false (rows_seen c.args.seen) c.row_at-row_a.ensures
     c.row_at-row_b.ensures)

@@ -1,12 +1,13 @@
 -- What is left to undo, of the rows as they stand, leads to the same rows.
-use Rattle.std.proofs.Common.{◌-◌}
-use Rattle.rules.specs.Rules.{rows_lent}
+use Rattle.std.specs.Prelude.{◌≡◌}
+use Rattle.rules.specs.Rules.{rows_in, log_in, SameParts}
 use Rattle.rollback.proofs.UndoLaws.{Undone}
 use Rattle.undoing.proofs.undo.undo.Given as goal
 
-abbrev pub invariant-loop-left : goal.invariant-loop-left
-invariant-loop-left l =
-    Undone (rows_lent l.fn.parents l.fn.crowns l.fn.amounts) (rows_lent l.parents l.crowns l.amounts) l.log l.base (l.used - l.base) l.left
-
-abbrev pub decreases-loop-left : goal.decreases-loop-left
-decreases-loop-left l = l.left
+abbrev pub invariant-loop-i : goal.invariant-loop-i
+invariant-loop-i l =
+    record {
+      same_parts : SameParts l.fn.lent l.lent;
+      log : log_in l.lent ≡ log_in l.fn.lent;
+      undone : Undone (rows_in l.fn.lent) (rows_in l.lent) (log_in l.fn.lent) l.base l.used l.i;
+    }
