@@ -1,9 +1,11 @@
 -- Each end of the tests, and what is known of calls that pass them. Assumes nothing.
-use Rattle.std.specs.Prelude.{◌≡◌, ◌*◌, ◌≤◌, ◌<◌}
-use Rattle.kit.specs.Names.{refl, sym, ap, ◌∙◌, true, false, ℕ, length, arith, dec_lt, ℕ_discrete, lt-ltb, le-ltb, eq-eqb, ne_eqb}
+use Rattle.std.specs.Prelude.{◌≡◌, ◌&&◌, ◌*◌, ◌≤◌, ◌<◌}
+use Rattle.kit.specs.Names.{refl, sym, ap, ◌∙◌, Bool, true, false, cond, not, ℕ, length, eqb, arith, dec_lt, lt-ltb, le-ltb, eqb-true}
 use Rattle.layout.specs.State.{NUMBERS, SERIALS}
 use Rattle.coding.specs.Coding.{Listed, unlisted, calls, is_listed, calls_in}
-use Rattle.admit.specs.Admit.{CARRIED-OUT, NO-STATE, NO-CALL, NO-ANSWERS, hearing, admission}
+use Rattle.admit.specs.declared.tests.Unserved.{Unserved}
+use Rattle.admit.specs.declared.tests.Unserved.TheVariants.{NoState, NoCall, NoAnswers}
+use Rattle.admit.specs.Admit.{CARRIED-OUT, NO-STATE, NO-CALL, NO-ANSWERS, code_of, state_admission, hearing, admission}
 
 unlisted_is : (l : Listed) → is_listed l ≡ false → l ≡ unlisted
 unlisted_is unlisted e = refl
@@ -13,33 +15,48 @@ calls_are : (l : Listed) → is_listed l ≡ true → l ≡ calls (calls_in l)
 calls_are unlisted e = absurd (let z : ◌≡◌ {A = ℕ} 0 1 = cc in omega arith)
 calls_are (calls cs) e = refl
 
+-- No reason is the number of what is carried out.
+pub unserved : (u : Unserved) → code_of u ≡ CARRIED-OUT → ⊥
+unserved NoState e = omega arith
+unserved NoCall e = omega arith
+unserved NoAnswers e = omega arith
+
+-- Whether the state's numbers are there decides first.
+module _ (l : Listed) (answers : ℕ) where
+  refused_first : (b : Bool) (u : Unserved) → code_of u ≡ cond b NO-STATE CARRIED-OUT → code_of u ≡ cond b NO-STATE (hearing l answers)
+  refused_first true u e = e
+  refused_first false u e = absurd (unserved u e)
+
+  heard_then : (b : Bool) → CARRIED-OUT ≡ cond b NO-STATE CARRIED-OUT → hearing l answers ≡ cond b NO-STATE (hearing l answers)
+  heard_then true e = absurd (omega arith)
+  heard_then false e = refl
+
+-- Whether a state's numbers are not there.
+abbrev pub missing : ℕ → ℕ → Bool
+missing n s = not (eqb n NUMBERS && eqb s SERIALS)
+
 module _ (numbers serials : ℕ) (l : Listed) (answers : ℕ) where
-  pub no_numbers : (numbers ≡ NUMBERS → ⊥) → NO-STATE ≡ admission numbers serials l answers
+  pub no_state : (u : Unserved) → code_of u ≡ state_admission numbers serials → code_of u ≡ admission numbers serials l answers
   unfolding admission
-  no_numbers d = rw (ne_eqb numbers NUMBERS d)
+  no_state u e = refused_first l answers (missing numbers serials) u e
 
-  module _ (n : numbers ≡ NUMBERS) where
-    pub no_serials : (serials ≡ SERIALS → ⊥) → NO-STATE ≡ admission numbers serials l answers
+  module _ (fit : CARRIED-OUT ≡ state_admission numbers serials) where
+    hear : hearing l answers ≡ admission numbers serials l answers
     unfolding admission
-    no_serials d = rw (eq-eqb numbers NUMBERS n, ne_eqb serials SERIALS d)
+    hear = heard_then l answers (missing numbers serials) fit
 
-    module _ (s : serials ≡ SERIALS) where
-      hear : hearing l answers ≡ admission numbers serials l answers
-      unfolding admission
-      hear = rw (eq-eqb numbers NUMBERS n, eq-eqb serials SERIALS s)
+    pub no_calls : is_listed l ≡ false → NO-CALL ≡ admission numbers serials l answers
+    no_calls e = sym (ap (λ (x : Listed). hearing x answers) (unlisted_is l e)) ∙ hear
 
-      pub no_calls : is_listed l ≡ false → NO-CALL ≡ admission numbers serials l answers
-      no_calls e = sym (ap (λ (x : Listed). hearing x answers) (unlisted_is l e)) ∙ hear
+    module _ (e : is_listed l ≡ true) where
+      heard : hearing (calls (calls_in l)) answers ≡ admission numbers serials l answers
+      heard = sym (ap (λ (x : Listed). hearing x answers) (calls_are l e)) ∙ hear
 
-      module _ (e : is_listed l ≡ true) where
-        heard : hearing (calls (calls_in l)) answers ≡ admission numbers serials l answers
-        heard = sym (ap (λ (x : Listed). hearing x answers) (calls_are l e)) ∙ hear
+      pub no_answers : answers < 9 * length (calls_in l) → NO-ANSWERS ≡ admission numbers serials l answers
+      no_answers k = sym (rw (lt-ltb answers (9 * length (calls_in l)) k)) ∙ heard
 
-        pub no_answers : answers < 9 * length (calls_in l) → NO-ANSWERS ≡ admission numbers serials l answers
-        no_answers k = sym (rw (lt-ltb answers (9 * length (calls_in l)) k)) ∙ heard
-
-        pub with_room : 9 * length (calls_in l) ≤ answers → CARRIED-OUT ≡ admission numbers serials l answers
-        with_room k = sym (rw (le-ltb answers (9 * length (calls_in l)) k)) ∙ heard
+      pub with_room : 9 * length (calls_in l) ≤ answers → CARRIED-OUT ≡ admission numbers serials l answers
+      with_room k = sym (rw (le-ltb answers (9 * length (calls_in l)) k)) ∙ heard
 
 -- What is known of calls that pass the tests.
 pub record Admitted (n s : ℕ) (l : Listed) (a : ℕ) : Type 0 where
@@ -55,14 +72,22 @@ heard_out (calls cs) a e = elim (dec_lt a (9 * length cs)) [
   | no n ↦ (refl, omega arith)
 ]
 
+pub carried : (b : Bool) (m : ℕ) → cond b NO-STATE m ≡ CARRIED-OUT → (b ≡ false) × (m ≡ CARRIED-OUT)
+carried true m e = absurd (omega arith)
+carried false m e = (refl, e)
+
+pub there : (a b : Bool) → not (a && b) ≡ false → (a ≡ true) × (b ≡ true)
+there true true e = (refl, refl)
+there true false e = absurd (let z : ◌≡◌ {A = ℕ} 0 1 = cc in omega arith)
+there false b e = absurd (let z : ◌≡◌ {A = ℕ} 0 1 = cc in omega arith)
+
 pub admitted : (n s : ℕ) (l : Listed) (a : ℕ) → admission n s l a ≡ CARRIED-OUT → Admitted n s l a
-admitted n s l a e = elim (ℕ_discrete n NUMBERS) [
-  | no d ↦ absurd (omega (arith, no_numbers n s l a d, e))
-  | yes p ↦ elim (ℕ_discrete s SERIALS) [
-    | no d ↦ absurd (omega (arith, no_serials n s l a p d, e))
-    | yes q ↦ let h = heard_out l a (hear n s l a p q ∙ e) in record { numbers = p; serials = q; calls = h.0; room = h.1 }
-  ]
-]
+unfolding admission
+admitted n s l a e =
+    let c = carried (missing n s) (hearing l a) e in
+    let t = there (eqb n NUMBERS) (eqb s SERIALS) c.0 in
+    let h = heard_out l a c.1 in
+    record { numbers = eqb-true n NUMBERS t.0; serials = eqb-true s SERIALS t.1; calls = h.0; room = h.1 }
 
 -- What is no list of calls is never carried out.
 pub never_out : (n s a : ℕ) → admission n s unlisted a ≡ CARRIED-OUT → ⊥

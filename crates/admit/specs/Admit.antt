@@ -1,8 +1,10 @@
 -- What the exported functions return, by the lengths of what is lent and the calls.
-use Rattle.std.specs.Prelude.{◌&&◌, ◌*◌}
+use Rattle.std.specs.Prelude.{◌&&◌, ◌*◌, Result, Ok, Err}
 use Rattle.kit.specs.Names.{cond, not, ℕ, length, eqb, ltb}
 use Rattle.layout.specs.State.{NUMBERS, SERIALS}
 use Rattle.coding.specs.Coding.{Listed, unlisted, calls}
+use Rattle.admit.specs.declared.tests.Unserved.{Unserved}
+use Rattle.admit.specs.declared.tests.Unserved.TheVariants.{NoState, NoCall, NoAnswers}
 
 -- What is returned.
 abbrev pub CARRIED-OUT : ℕ
@@ -16,6 +18,20 @@ NO-CALL = 2
 
 abbrev pub NO-ANSWERS : ℕ
 NO-ANSWERS = 3
+
+-- What is returned of a test.
+abbrev pub code_of : Unserved → ℕ
+code_of NoState = NO-STATE
+code_of NoCall = NO-CALL
+code_of NoAnswers = NO-ANSWERS
+
+abbrev pub code_in : Result (Unit {0}) Unserved → ℕ
+code_in (Ok x) = CARRIED-OUT
+code_in (Err why) = code_of why
+
+-- By a state's numbers alone.
+abbrev pub state_admission : ℕ → ℕ → ℕ
+state_admission numbers serials = cond (not (eqb numbers NUMBERS && eqb serials SERIALS)) NO-STATE CARRIED-OUT
 
 abbrev pub hearing : Listed → ℕ → ℕ
 hearing unlisted answers = NO-CALL

@@ -2,7 +2,8 @@ ghost use Rattle.call_numbers.specs.Told.{Told};
 
 use rules::call::Call;
 
-// The call's code, then a, b and c; a number that it does not have is 0.
+// The call's code, then a, b and c; a number that it does not have is 0. A function and no `From`: neither `Call` nor an array is of
+// this crate, and the codes are C's.
 pub fn numbers_of(call: Call) -> [u64; 4]
     ensures { Told result call }
 {

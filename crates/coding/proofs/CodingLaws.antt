@@ -1,7 +1,9 @@
 -- What four numbers ask for, and what a list of them does. Assumes nothing.
-use Rattle.std.specs.Prelude.{◌≡◌, ◌&&◌, ◌∷◌, ◌+◌, ◌-◌, ◌*◌, ◌%◌, ◌≤◌, ◌<◌}
-use Rattle.kit.specs.Names.{refl, sym, ap, ◌∙◌, Bool, true, false, cond, List, [], ℕ, zero, suc, length, get_or, drop, length-drop, leb, ltb, drop-cons}
+use Rattle.std.specs.Prelude.{◌≡◌, ◌&&◌, ◌∷◌, ◌+◌, ◌-◌, ◌*◌, ◌/◌, ◌%◌, ◌≤◌, ◌<◌}
+use Rattle.kit.specs.Names.{refl, sym, ap, ◌∙◌, Bool, true, false, cond, List, [], ℕ, zero, suc, length, get_or, drop, take, length-drop, drop-drop, get_or-take, get_or-drop, leb, ltb, drop-cons}
 use Rattle.kit.specs.Names.{arith, dec_lt, add-one, ltb-true, leb-true, lt-ltb, le-ltb, le-leb, lt-leb}
+use Rattle.std.specs.List.{list_all}
+use Rattle.std.specs.Simd.{first_chunks}
 use Rattle.rules.specs.Rules.{Call, WORD}
 use Rattle.coding.specs.declared.coding.Form.{Form}
 use Rattle.coding.specs.declared.coding.Limits.{Limits}
@@ -105,21 +107,12 @@ few (a ∷ b ∷ []) h k = refl
 few (a ∷ b ∷ c ∷ []) h k = refl
 few (a ∷ b ∷ c ∷ d ∷ l) h k = absurd (omega arith)
 
-then_not : (a : Asked) (l : Listed) → is_asked a ≡ false → is_listed (then a l) ≡ false
-then_not nothing l e = refl
-then_not (asked c) l e = absurd (let z : ◌≡◌ {A = ℕ} 0 1 = cc in omega arith)
-
-then_on : (a : Asked) (l : Listed) → is_asked a ≡ true → is_listed (then a l) ≡ is_listed l
-then_on nothing l e = absurd (let z : ◌≡◌ {A = ℕ} 0 1 = cc in omega arith)
-then_on (asked c) unlisted e = refl
-then_on (asked c) (calls cs) e = refl
-
 module _ (l : List ℕ) (at : ℕ) where
-  pub short_list : at < length l → length l - at < 4 → is_listed (call_list (drop at l)) ≡ false
+  short_list : at < length l → length l - at < 4 → is_listed (call_list (drop at l)) ≡ false
   short_list h k = ap is_listed (few (drop at l) (omega (arith, length-drop at l)) (omega (arith, length-drop at l)))
 
   module _ (h : at + 4 ≤ length l) where
-    pub four : call_list (drop at l) ≡ then (asked_at l at) (call_list (drop (at + 4) l))
+    four : call_list (drop at l) ≡ then (asked_at l at) (call_list (drop (at + 4) l))
     unfolding call_list
     four =
         ap call_list
@@ -130,11 +123,65 @@ module _ (l : List ℕ) (at : ℕ) where
         (next l (at + 2) (at + 3) (omega arith) (omega arith)
         ∙ ap (λ (r : List ℕ). get_or l (at + 2) 0 ∷ r) (next l (at + 3) (at + 4) (omega arith) (omega arith)))))
 
-    pub no_call : is_asked (asked_at l at) ≡ false → is_listed (call_list (drop at l)) ≡ false
-    no_call e = ap is_listed four ∙ then_not (asked_at l at) (call_list (drop (at + 4) l)) e
+-- Four numbers at a time: where they come out even, each four are a call.
+abbrev whole : List (List ℕ) → Bool
+whole fours = list_all (λ (call : List ℕ). is_asked (asked_at call 0)) fours
 
-    pub a_call : is_asked (asked_at l at) ≡ true → is_listed (call_list (drop at l)) ≡ is_listed (call_list (drop (at + 4) l))
-    a_call e = ap is_listed four ∙ then_on (asked_at l at) (call_list (drop (at + 4) l)) e
+then_listed : (a : Asked) (l : Listed) → is_asked a && is_listed l ≡ is_listed (then a l)
+then_listed nothing l = refl
+then_listed (asked c) unlisted = refl
+then_listed (asked c) (calls cs) = refl
+
+then_none : (a : Asked) (l : Listed) → is_listed l ≡ false → is_listed (then a l) ≡ false
+then_none nothing l e = refl
+then_none (asked c) unlisted e = refl
+then_none (asked c) (calls cs) e = absurd (let z : ◌≡◌ {A = ℕ} 0 1 = cc in omega arith)
+
+fours : (k : ℕ) (l : List ℕ) → length l ≡ 4 * k → whole (first_chunks 4 k l) ≡ is_listed (call_list l)
+unfolding call_list
+fours zero [] e = refl
+fours zero (a ∷ l) e = absurd (omega arith)
+fours (suc k) [] e = absurd (omega arith)
+fours (suc k) (a ∷ []) e = absurd (omega arith)
+fours (suc k) (a ∷ b ∷ []) e = absurd (omega arith)
+fours (suc k) (a ∷ b ∷ c ∷ []) e = absurd (omega arith)
+fours (suc k) (a ∷ b ∷ c ∷ d ∷ l) e = ap (λ (x : Bool). is_asked (asked_of a b c d) && x) (fours k l (omega arith)) ∙ then_listed (asked_of a b c d) (call_list l)
+
+left_over : (k : ℕ) (l : List ℕ) → 4 * k < length l → length l < 4 * k + 4 → false ≡ is_listed (call_list l)
+unfolding call_list
+left_over zero l h m = sym (ap is_listed (few l h m))
+left_over (suc k) [] h m = absurd (omega arith)
+left_over (suc k) (a ∷ []) h m = absurd (omega arith)
+left_over (suc k) (a ∷ b ∷ []) h m = absurd (omega arith)
+left_over (suc k) (a ∷ b ∷ c ∷ []) h m = absurd (omega arith)
+left_over (suc k) (a ∷ b ∷ c ∷ d ∷ l) h m =
+    sym (then_none (asked_of a b c d) (call_list l) (sym (left_over k l (omega arith) (omega arith))))
+
+pub all_listed : (l : List ℕ) (cs : List (List ℕ)) → cs ≡ first_chunks 4 (length l / 4) l → length l % 4 ≡ 0 → whole cs ≡ is_listed (call_list l)
+all_listed l cs q e = ap whole q ∙ fours (length l / 4) l (omega arith)
+
+pub none_listed : (l : List ℕ) → 0 < length l % 4 → false ≡ is_listed (call_list l)
+none_listed l h = left_over (length l / 4) l (omega arith) (omega arith)
+
+-- Which four they are, and what they ask for.
+four_at : (k i : ℕ) (l : List ℕ) → i < k → get_or (first_chunks 4 k l) i [] ≡ take 4 (drop (4 * i) l)
+four_at zero i l h = absurd (omega arith)
+four_at (suc k) zero l h = refl
+four_at (suc k) (suc i) l h =
+    let e : 4 + 4 * i ≡ 4 * suc i = omega arith in
+    four_at k i (drop 4 l) (omega arith) ∙ ap (take 4) (drop-drop (4 * i) 4 l ∙ ap (λ (n : ℕ). drop n l) e)
+
+module _ (l : List ℕ) (at : ℕ) where
+  number_at : (j : ℕ) → j < 4 → get_or (take 4 (drop at l)) j 0 ≡ get_or l (at + j) 0
+  number_at j h = get_or-take 4 (drop at l) j 0 h ∙ get_or-drop at l j 0
+
+  asked_there : asked_at (take 4 (drop at l)) 0 ≡ asked_at l at
+  asked_there =
+      let e : at + 0 ≡ at = omega arith in
+      rw (number_at 0 (omega arith), number_at 1 (omega arith), number_at 2 (omega arith), number_at 3 (omega arith), e)
+
+pub asked_chunk : (k i : ℕ) (l : List ℕ) → i < k → asked_at (get_or (first_chunks 4 k l) i []) 0 ≡ asked_at l (4 * i)
+asked_chunk k i l h = ap (λ (call : List ℕ). asked_at call 0) (four_at k i l h) ∙ asked_there l (4 * i)
 
 -- A list that is one of calls begins with the call that stands there, and goes on as one.
 pub record Next (l : List ℕ) (at : ℕ) : Type 0 where

@@ -1,4 +1,5 @@
 ghost use Rattle.std.specs.Prelude.{ℕ, ◌≡◌, true, ◌+◌, ◌≤◌, ◌<◌, length};
+ghost use Rattle.std.specs.List.{list_all};
 ghost use Rattle.coding.specs.Coding.{LONG, CODES, form_of, Formed, is_asked, asked_of, asked_at, call_in, call_at, call_list, is_listed};
 
 use rules::call::Call;
@@ -7,7 +8,7 @@ use rules::numbers::WORD;
 // How many numbers a call has.
 pub const CALL: usize = 4;
 
-// How many codes there are.
+// How many codes there are. They are C's (docs/LIBRARY.md), so they stay numbers.
 const CODES: u64 = 15;
 
 // Codes from here on name a token: first those that close a snapshot, then those that ask about one.
@@ -30,10 +31,12 @@ pub struct Limits(pub u64, pub u64, pub u64);
 #[derive(Drop)]
 pub struct Form(pub Limits, pub Call);
 
+// What a code stands for. No enum of the codes stands between: a list that C lends may hold any number, and each is read here alone.
 fn form_of(code: u64, a: u64, b: u64, c: u64) -> Form
     requires { code < CODES }
     ensures { Formed (form_of code a b c) a b c result }
 {
+    // The lower 32 bits: the limits tell where more than those stand.
     let key = (a % WORD) as u32;
     let other = (b % WORD) as u32;
     match code {
@@ -56,44 +59,33 @@ fn form_of(code: u64, a: u64, b: u64, c: u64) -> Form
 }
 
 // Whether four numbers are a call whose code names a token, which may be any number.
+#[tactic(auto, using(crate::proofs::CodingLaws::no_code, crate::proofs::CodingLaws::more_than_token, crate::proofs::CodingLaws::token_alone))]
 fn is_token_call(code: u64, b: u64, c: u64) -> bool
     requires { 10 ≤ code }
     ensures { (a : ℕ) → a ≤ LONG → result ≡ is_asked (asked_of code a b c) }
 {
-    if code >= CODES {
-        return false;
-    }
-    if b > UNUSED {
-        return false;
-    }
-    c <= UNUSED
+    code < CODES && b <= UNUSED && c <= UNUSED
 }
 
 // Whether four numbers are a call. Most name no token, and those are told first.
+#[tactic(auto, using(crate::proofs::CodingLaws::is_fit))]
 fn is_call(code: u64, a: u64, b: u64, c: u64) -> bool
     ensures { result ≡ is_asked (asked_of code a b c) }
 {
     if code >= TOKENS {
         return is_token_call(code, b, c);
     }
-    let form = form_of(code, a, b, c);
-    let most = form.0;
-    if a > most.0 {
-        return false;
-    }
-    if b > most.1 {
-        return false;
-    }
-    c <= most.2
+    let most = form_of(code, a, b, c).0;
+    a <= most.0 && b <= most.1 && c <= most.2
 }
 
 // The call that four numbers ask for.
+#[tactic(auto, using(crate::proofs::CodingLaws::known, crate::proofs::CodingLaws::made))]
 fn make_call(code: u64, a: u64, b: u64, c: u64) -> Call
     requires { is_asked (asked_of code a b c) ≡ true }
     ensures { result ≡ call_in (asked_of code a b c) }
 {
-    let form = form_of(code, a, b, c);
-    form.1
+    form_of(code, a, b, c).1
 }
 
 // The call that stands at a place of a list, which was tested to be one.
@@ -105,27 +97,18 @@ pub fn call_at(calls: &[u64], at: usize) -> Call
     make_call(calls[at], calls[at + 1], calls[at + 2], calls[at + 3])
 }
 
-// Whether a call stands at a place of a list.
-fn is_call_at(calls: &[u64], at: usize) -> bool
-    requires { at + 4 ≤ length calls.now }
-    ensures { result ≡ is_asked (asked_at calls.now at) }
+// Whether all of them, four numbers each, are calls.
+fn are_calls(calls: &[[u64; CALL]]) -> bool
+    ensures { result ≡ list_all (λ call. is_asked (asked_at call 0)) calls.now }
 {
-    is_call(calls[at], calls[at + 1], calls[at + 2], calls[at + 3])
+    calls.iter().all(|&[code, a, b, c]| is_call(code, a, b, c))
 }
 
 // Whether a list is one of calls, four numbers to each.
+#[tactic(auto, using(crate::proofs::CodingLaws::none_listed))]
 pub fn all_calls(calls: &[u64]) -> bool
     ensures { result ≡ is_listed (call_list calls.now) }
 {
-    let mut at = 0;
-    while at < calls.len() {
-        if calls.len() - at < CALL {
-            return false;
-        }
-        if !is_call_at(calls, at) {
-            return false;
-        }
-        at += CALL;
-    }
-    true
+    let (calls, rest) = calls.as_chunks();
+    rest.is_empty() && are_calls(calls)
 }

@@ -3,8 +3,10 @@ ghost use Rattle.coding.specs.Coding.{call_list, single};
 ghost use Rattle.runs.specs.Served.{host_lent};
 ghost use Rattle.host.specs.Host.{hosted, serve};
 
-use admit::tests::{CARRIED_OUT, no_call, test_calls};
+use admit::tests::{CARRIED_OUT, NO_STATE, no_call, test_calls};
 use coding::coding::CALL;
+use layout::state::LentState;
+use rules::table::Lent;
 use runs::list::run;
 
 // Carries out a list of calls, which is tested whole before its first call.
@@ -22,14 +24,24 @@ pub fn meter_calls(
         let after = host_lent numbers.new serials.new parents.new crowns.new amounts.new log.new answers.new in
         hosted result after ≡ serve h (call_list calls.now) }
 {
-    let code = test_calls(numbers.len(), serials.len(), calls, answers.len());
-    if code != CARRIED_OUT {
-        return code;
+    if let Err(unserved) = test_calls(numbers.len(), serials.len(), calls, answers.len()) {
+        return unserved.code();
     }
-    run(
-        numbers, serials, parents, crowns, amounts, log, calls, answers,
-    );
-    code
+    let Some(numbers) = numbers.as_mut_array() else {
+        return NO_STATE;
+    };
+    let Some(serials) = serials.as_mut_array() else {
+        return NO_STATE;
+    };
+    let mut state = LentState { numbers, serials };
+    let mut lent = Lent {
+        parents,
+        crowns,
+        amounts,
+        log,
+    };
+    run(&mut state, &mut lent, calls, answers);
+    CARRIED_OUT
 }
 
 // Carries out one call: a list of four numbers.
@@ -52,5 +64,5 @@ pub fn meter_call(
             numbers, serials, parents, crowns, amounts, log, call, answer,
         );
     }
-    no_call(numbers.len(), serials.len())
+    no_call(numbers.len(), serials.len()).code()
 }

@@ -1,6 +1,6 @@
 -- Four numbers read and written. Assumes nothing.
-use Rattle.std.specs.Prelude.{◌≡◌, ◌∷◌, ◌<◌}
-use Rattle.kit.specs.Names.{refl, true, false, List, [], ℕ, length, get_or, set, eqb, ltb, arith, eq-eqb, ne_eqb, eqb-true, ltb-true}
+use Rattle.std.specs.Prelude.{◌≡◌, ◌<◌}
+use Rattle.kit.specs.Names.{true, false, List, ℕ, length, get_or, eqb, ltb, eq-eqb, ne_eqb, eqb-true, ltb-true}
 use Rattle.rules.specs.Rules.{WORD}
 use Rattle.journal.proofs.ReadLaws.{both}
 use Rattle.known_numbers.specs.Known.{KNOWN, is_known}
@@ -20,11 +20,3 @@ module _ (ns : List ℕ) where
   four e =
       let b = both (eqb (length ns) KNOWN) (ltb (get_or ns 2 0) WORD) e in
       record { long = eqb-true (length ns) KNOWN b.0; small = ltb-true (get_or ns 2 0) WORD b.1 }
-
-pub four_put : (l : List ℕ) (a b c d : ℕ) → length l ≡ KNOWN → set (set (set (set l 0 a) 1 b) 2 c) 3 d ≡ a ∷ b ∷ c ∷ d ∷ []
-four_put [] a b c d e = absurd (omega arith)
-four_put (x ∷ []) a b c d e = absurd (omega arith)
-four_put (x ∷ y ∷ []) a b c d e = absurd (omega arith)
-four_put (x ∷ y ∷ z ∷ []) a b c d e = absurd (omega arith)
-four_put (x ∷ y ∷ z ∷ w ∷ []) a b c d e = refl
-four_put (x ∷ y ∷ z ∷ w ∷ v ∷ l) a b c d e = absurd (omega arith)

@@ -10,12 +10,11 @@ pub const KNOWN: usize = 4;
 pub fn is_known(known: &[u64]) -> bool
     ensures { result ≡ is_known known.now }
 {
-    if known.len() != KNOWN {
-        return false;
-    }
-    known[2] < WORD
+    known.len() == KNOWN && known[2] < WORD
 }
 
+// A function, as `put_known` is, and no `From`: neither `Known` nor an array is of this crate, and where each number stands is C's
+// (docs/LIBRARY.md).
 #[tactic(auto, using(crate::proofs::KnownLaws::four))]
 pub fn known_in(known: &[u64]) -> Known
     requires { is_known known.now ≡ true }
@@ -29,13 +28,14 @@ pub fn known_in(known: &[u64]) -> Known
     }
 }
 
-#[tactic(auto, using(crate::proofs::KnownLaws::four_put))]
 pub fn put_known(known: &mut [u64], after: Known)
     requires { length known.old ≡ KNOWN }
     ensures { known.new ≡ known_numbers after }
 {
-    known[0] = after.used as u64;
-    known[1] = after.segments;
-    known[2] = after.open as u64;
-    known[3] = after.waiting as u64;
+    known.copy_from_slice(&[
+        after.used as u64,
+        after.segments,
+        after.open as u64,
+        after.waiting as u64,
+    ]);
 }

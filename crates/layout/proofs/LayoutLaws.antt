@@ -1,23 +1,22 @@
 -- The numbers of a state: what stands where, what a call writes, and that numbers and state are each other's. Assumes nothing.
-use Rattle.std.specs.Prelude.{◌≡◌, ◌∷◌, ◌+◌, ◌-◌, ◌≤◌, ◌<◌}
-use Rattle.kit.specs.Names.{refl, sym, ap, ◌∙◌, Bool, true, false, cond, List, [], map, ℕ, zero, suc, length, get_or, set, ltb}
-use Rattle.kit.specs.Names.{length-set, set_out, arith, add-one, lt-ltb, le-ltb, eq-eqb, ne_eqb}
-use Rattle.rules.specs.Rules.{Call, Head, Mark, State, MAX-OPEN, mark, mark_at, innermost, seek}
+use Rattle.std.specs.Prelude.{◌≡◌, ◌∷◌, ◌+◌, ◌≤◌, ◌<◌}
+use Rattle.kit.specs.Names.{refl, sym, ap, Bool, true, false, cond, List, [], map, ℕ, zero, suc, length, get_or, set, drop, ltb}
+use Rattle.kit.specs.Names.{length-set, set_out, arith, add-one, lt-ltb, le-ltb}
+use Rattle.rules.specs.Rules.{Call, Head, Mark, Sought, State, MAX-OPEN, mark, mark_at}
 use Rattle.rules.specs.declared.call.Call.TheVariants.{Rollback, Commit, Keys, Actions, Changes}
-use Rattle.rules.specs.declared.table.Sought.TheVariants.{Missing, Held}
+use Rattle.std.specs.Prelude.{None}
 use Rattle.undo_log.specs.declared.tokens.Settled.{Settled}
-use Rattle.undo_log.specs.Settled.{state_after, latest, mark_of, mark_for}
-use Rattle.undo_log.proofs.MarkLaws.{seek_hit, seek_miss}
+use Rattle.undo_log.specs.Settled.{state_after, mark_of, mark_for}
 use Rattle.layout.specs.State.{NUMBERS, SERIALS, Sized, marks_of, head_in, state_by, state_of, headed, pairs_of, state_numbers, state_serials}
 
 -- ---- marks as numbers: log length and keys two by two, and the serials
 
-marks_length : (ns ss : List ℕ) → length ns ≡ length ss + length ss → length (marks_of ns ss) ≡ length ss
+few_marks : (ns ss : List ℕ) → length (marks_of ns ss) ≤ length ss
 unfolding marks_of
-marks_length [] ss e = omega arith
-marks_length (l ∷ []) ss e = absurd (omega arith)
-marks_length (l ∷ k ∷ ns) [] e = refl
-marks_length (l ∷ k ∷ ns) (s ∷ ss) e = ap suc (marks_length ns ss (omega arith))
+few_marks [] ss = omega arith
+few_marks (l ∷ []) ss = omega arith
+few_marks (l ∷ k ∷ ns) [] = omega arith
+few_marks (l ∷ k ∷ ns) (s ∷ ss) = omega (arith, few_marks ns ss)
 
 twice : (i : ℕ) → suc i + suc i ≡ suc (suc (i + i))
 twice i = omega arith
@@ -112,13 +111,14 @@ module _ (b : Head) (r : Settled) where
   after_level ns ss h = rw (le-ltb b.«open» r.head.«open» h)
 
   module _ (h : b.«open» < r.head.«open») where
-    -- One was, and its mark has no place.
-    beyond_there : {ns ss : List ℕ} → MAX-OPEN ≤ b.«open» → Shaped ns ss
+    -- One was, and its mark has no place: there are no more marks than serials for them.
+    pub after_beyond : (ns ss : List ℕ) → length ss ≡ SERIALS → MAX-OPEN ≤ b.«open»
         → state_by r.head ns (set ss 0 r.answer.token) ≡ state_after (state_by b ns ss) r
     unfolding state_after
-    beyond_there k (shaped c u o l ns ss n s) =
-        let out : length (marks_of ns ss) ≤ b.«open» = omega (arith, marks_length ns ss (omega arith)) in
-        rw (lt-ltb b.«open» r.head.«open» h, set_out (marks_of ns ss) b.«open» (mark r.answer.token b.used b.count) out)
+    after_beyond ns [] z k = absurd (omega arith)
+    after_beyond ns (l ∷ ss) z k =
+        let out : length (marks_of (drop 3 ns) ss) ≤ b.«open» = omega (arith, few_marks (drop 3 ns) ss) in
+        rw (lt-ltb b.«open» r.head.«open» h, set_out (marks_of (drop 3 ns) ss) b.«open» (mark r.answer.token b.used b.count) out)
 
     -- One was, and its mark is written.
     opened_there : {ns ss : List ℕ} → Shaped ns ss
@@ -129,9 +129,6 @@ module _ (b : Head) (r : Settled) where
         rw (lt-ltb i r.head.«open» h, past_one i, past i, add-one i, marks_set ns ss i b.used b.count r.answer.token)
 
     module _ (ns ss : List ℕ) (z : Sized ns ss) where
-      pub after_beyond : MAX-OPEN ≤ b.«open» → state_by r.head ns (set ss 0 r.answer.token) ≡ state_after (state_by b ns ss) r
-      after_beyond k = beyond_there k (shape ns ss z)
-
       pub after_opened
           : state_by r.head (opened ns b) (set (set ss 0 r.answer.token) (b.«open» + 1) r.answer.token) ≡ state_after (state_by b ns ss) r
       after_opened = opened_there (shape ns ss z)
@@ -167,37 +164,14 @@ both_back (shaped c u o l ns ss n s) = (rw (pairs ns ss (omega arith)), rw (firs
 pub numbers_state : (ns ss : List ℕ) → Sized ns ss → (state_numbers (state_of ns ss) ≡ ns) × (state_serials (state_of ns ss) ≡ ss)
 numbers_state ns ss z = both_back (shape ns ss z)
 
--- ---- the mark that a token names
-
-module _ (s : State) (token : ℕ) (m : Mark) where
-  module _ (n : s.«open» ≡ 0 → ⊥) (q : m ≡ innermost s) where
-    pub is_latest : m.serial ≡ token → Held m ≡ latest s token
-    is_latest e = rw (q, ne_eqb s.«open» 0 n, eq-eqb (innermost s).serial token (ap (λ (x : Mark). x.serial) (sym q) ∙ e))
-
-    pub not_latest : (m.serial ≡ token → ⊥) → Missing ≡ latest s token
-    not_latest d = rw (ne_eqb s.«open» 0 n, ne_eqb (innermost s).serial token (λ e. d (ap (λ (x : Mark). x.serial) q ∙ e)))
-
-  -- The mark before `left` is the next to be looked at.
-  module _ (left : ℕ) (h : 0 < left) (q : m ≡ mark_at s (left - 1)) where
-    prev : suc (left - 1) ≡ left
-    prev = omega arith
-
-    pub found_there : m.serial ≡ token → Held m ≡ seek s token left
-    found_there e =
-        ap Held q ∙ seek_hit s token (left - 1) (ap (λ (x : Mark). x.serial) (sym q) ∙ e) ∙ ap (seek s token) prev
-
-    pub not_there : (m.serial ≡ token → ⊥) → seek s token (left - 1) ≡ seek s token left
-    not_there d =
-        sym (seek_miss s token (left - 1) (λ e. d (ap (λ (x : Mark). x.serial) q ∙ e))) ∙ ap (seek s token) prev
-
 -- ---- the mark that a call is about
 
-either : (b : Bool) → cond b Missing Missing ≡ Missing
+either : (b : Bool) → cond {A = Sought} b None None ≡ None
 either true = refl
 either false = refl
 
 -- A call that names no token is about no mark, whatever is open.
-pub no_mark : (s : State) (c : Call) → Missing ≡ mark_of s c → Missing ≡ mark_for s c
+pub no_mark : (s : State) (c : Call) → None ≡ mark_of s c → None ≡ mark_for s c
 unfolding mark_for
 no_mark s c q = rw (← q) (sym (either (ltb MAX-OPEN s.«open»)))
 

@@ -1,10 +1,12 @@
 ghost use Rattle.std.specs.Prelude.{◌≡◌, false};
-ghost use Rattle.rules.specs.Rules.{rows_lent, table_lent, outcome, sizes_of, bad, step};
+ghost use Rattle.rules.specs.Rules.{rows_in, log_in, table_in, SameParts, outcome, sizes_of, bad, step};
 ghost use Rattle.undo_log.specs.Settled.{mark_for};
-ghost use Rattle.layout.specs.State.{Sized, state_by};
+ghost use Rattle.layout.specs.Lent.{SameState, state_under};
 
+use head_calls::calls::Outline;
+use layout::state::LentState;
 use rules::call::Call;
-use rules::table::{Head, Sought};
+use rules::table::{Head, Lent, Mark};
 use table::call::call_good;
 use undo_log::tokens::Settled;
 use write_state::after::write_after;
@@ -13,27 +15,25 @@ use write_state::after::write_after;
 // read than the last serial and no more written than a mark that the call makes.
 #[tactic(auto, using(crate::proofs::OneLaws::one_done))]
 pub fn carry_out(
-    numbers: &mut [u32],
-    serials: &mut [u64],
-    parents: &mut [u32],
-    crowns: &mut [u32],
-    amounts: &mut [u64],
-    log: &mut [u32],
+    state: &mut LentState<'_>,
+    lent: &mut Lent<'_>,
     head: Head,
-    sought: Sought,
+    sought: Option<Mark>,
     call: Call,
 ) -> Settled
-    requires sized { Sized numbers.old serials.old }
-    requires sought_value { sought ≡ mark_for (state_by head numbers.old serials.old) call }
-    requires head_value { bad (sizes_of (rows_lent parents.old crowns.old amounts.old) log.old) head ≡ false }
-    ensures { let t = table_lent parents.old crowns.old amounts.old log.old in
-        let after = table_lent parents.new crowns.new amounts.new log.new in
-        outcome result.answer (after (state_by result.head numbers.new serials.new))
-        ≡ step (t (state_by head numbers.old serials.old)) call }
+    requires sought_value { sought ≡ mark_for (state_under head state.old) call }
+    requires head_value { bad (sizes_of (rows_in lent.old) (log_in lent.old)) head ≡ false }
+    ensures same_state { SameState state.old state.new }
+    ensures same_parts { SameParts lent.old lent.new }
+    ensures value { outcome result.answer (table_in lent.new (state_under result.head state.new))
+        ≡ step (table_in lent.old (state_under head state.old)) call }
 {
-    let settled = call_good(
-        parents, crowns, amounts, log, head, serials[0], sought, call,
-    );
-    write_after(numbers, serials, head, settled);
+    let outline = Outline {
+        head,
+        last: state.serials[0],
+        sought,
+    };
+    let settled = call_good(lent, outline, call);
+    write_after(state, head, settled);
     settled
 }

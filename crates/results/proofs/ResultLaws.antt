@@ -1,34 +1,29 @@
--- Two numbers written, and each end of the tests. Assumes nothing.
-use Rattle.std.specs.Prelude.{◌≡◌, ◌∷◌}
-use Rattle.kit.specs.Names.{refl, List, [], ℕ, length, set, arith, ℕ_discrete, eq-eqb, ne_eqb}
+-- Each end of the tests, and what passes them. Assumes nothing.
+use Rattle.std.specs.Prelude.{◌≡◌}
+use Rattle.kit.specs.Names.{refl, Bool, true, false, cond, ℕ, eqb, arith, eqb-true}
 use Rattle.layout.specs.State.{NUMBERS, SERIALS}
-use Rattle.admit.specs.Admit.{CARRIED-OUT, NO-STATE, NO-ANSWERS}
-use Rattle.results.specs.Results.{RESULT, result_numbers, result_admission}
+use Rattle.admit.specs.declared.tests.Unserved.{Unserved}
+use Rattle.admit.specs.Admit.{CARRIED-OUT, NO-STATE, NO-ANSWERS, code_of, state_admission}
+use Rattle.admit.proofs.AdmitLaws.{unserved, carried, there, missing}
+use Rattle.results.specs.Results.{RESULT, result_admission, room_admission}
 
-pub two_put : (l : List ℕ) (n m : ℕ) → length l ≡ RESULT → set (set l 0 n) 1 m ≡ result_numbers n m
-two_put [] n m e = absurd (omega arith)
-two_put (a ∷ []) n m e = absurd (omega arith)
-two_put (a ∷ b ∷ []) n m e = refl
-two_put (a ∷ b ∷ c ∷ l) n m e = absurd (omega arith)
+module _ (room : ℕ) where
+  refused_first : (b : Bool) (u : Unserved) → code_of u ≡ cond b NO-STATE CARRIED-OUT → code_of u ≡ cond b NO-STATE room
+  refused_first true u e = e
+  refused_first false u e = absurd (unserved u e)
+
+  room_then : (b : Bool) → CARRIED-OUT ≡ cond b NO-STATE CARRIED-OUT → room ≡ cond b NO-STATE room
+  room_then true e = absurd (omega arith)
+  room_then false e = refl
 
 module _ (numbers serials result : ℕ) where
-  pub no_numbers : (numbers ≡ NUMBERS → ⊥) → NO-STATE ≡ result_admission numbers serials result
+  pub no_state : (u : Unserved) → code_of u ≡ state_admission numbers serials → code_of u ≡ result_admission numbers serials result
   unfolding result_admission
-  no_numbers d = rw (ne_eqb numbers NUMBERS d)
+  no_state u e = refused_first (room_admission result) (missing numbers serials) u e
 
-  module _ (n : numbers ≡ NUMBERS) where
-    pub no_serials : (serials ≡ SERIALS → ⊥) → NO-STATE ≡ result_admission numbers serials result
-    unfolding result_admission
-    no_serials d = rw (eq-eqb numbers NUMBERS n, ne_eqb serials SERIALS d)
-
-    module _ (s : serials ≡ SERIALS) where
-      pub no_result : (result ≡ RESULT → ⊥) → NO-ANSWERS ≡ result_admission numbers serials result
-      unfolding result_admission
-      no_result d = rw (eq-eqb numbers NUMBERS n, eq-eqb serials SERIALS s, ne_eqb result RESULT d)
-
-      pub all_there : result ≡ RESULT → CARRIED-OUT ≡ result_admission numbers serials result
-      unfolding result_admission
-      all_there e = rw (eq-eqb numbers NUMBERS n, eq-eqb serials SERIALS s, eq-eqb result RESULT e)
+  pub by_room : CARRIED-OUT ≡ state_admission numbers serials → room_admission result ≡ result_admission numbers serials result
+  unfolding result_admission
+  by_room e = room_then (room_admission result) (missing numbers serials) e
 
 -- What passes the tests has its lengths.
 pub record Fits (n s r : ℕ) : Type 0 where
@@ -36,14 +31,13 @@ pub record Fits (n s r : ℕ) : Type 0 where
   pub serials : s ≡ SERIALS
   pub result : r ≡ RESULT
 
+roomy : (r : ℕ) (b : Bool) → eqb r RESULT ≡ b → cond b CARRIED-OUT NO-ANSWERS ≡ CARRIED-OUT → r ≡ RESULT
+roomy r true q e = eqb-true r RESULT q
+roomy r false q e = absurd (omega arith)
+
 pub fitting : (n s r : ℕ) → result_admission n s r ≡ CARRIED-OUT → Fits n s r
-fitting n s r e = elim (ℕ_discrete n NUMBERS) [
-  | no d ↦ absurd (omega (arith, no_numbers n s r d, e))
-  | yes p ↦ elim (ℕ_discrete s SERIALS) [
-    | no d ↦ absurd (omega (arith, no_serials n s r p d, e))
-    | yes q ↦ elim (ℕ_discrete r RESULT) [
-      | no d ↦ absurd (omega (arith, no_result n s r p q d, e))
-      | yes z ↦ record { numbers = p; serials = q; result = z }
-    ]
-  ]
-]
+unfolding result_admission
+fitting n s r e =
+    let c = carried (missing n s) (room_admission r) e in
+    let t = there (eqb n NUMBERS) (eqb s SERIALS) c.0 in
+    record { numbers = eqb-true n NUMBERS t.0; serials = eqb-true s SERIALS t.1; result = roomy r (eqb r RESULT) refl c.1 }

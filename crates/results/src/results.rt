@@ -1,44 +1,35 @@
 ghost use Rattle.std.specs.Prelude.{◌≡◌, length};
+ghost use Rattle.admit.specs.Admit.{code_in};
 ghost use Rattle.results.specs.Results.{RESULT, result_numbers, result_admission, room_admission};
 
-use admit::tests::{CARRIED_OUT, NO_ANSWERS, NO_STATE};
-use layout::state::{NUMBERS, SERIALS};
+use admit::tests::{Unserved, test_state};
 
 // How many numbers a result has.
 pub const RESULT: usize = 2;
 
 // What is returned, by how many numbers are lent for the state and for the result.
-#[tactic(auto, using(crate::proofs::ResultLaws::no_numbers, crate::proofs::ResultLaws::no_serials, crate::proofs::ResultLaws::no_result, crate::proofs::ResultLaws::all_there))]
-pub fn test_result(numbers: usize, serials: usize, res: usize) -> u32
-    ensures { result ≡ result_admission numbers serials res }
+#[tactic(auto, using(crate::proofs::ResultLaws::no_state, crate::proofs::ResultLaws::by_room))]
+pub fn test_result(numbers: usize, serials: usize, res: usize) -> Result<(), Unserved>
+    ensures { code_in result ≡ result_admission numbers serials res }
 {
-    if numbers != NUMBERS {
-        return NO_STATE;
-    }
-    if serials != SERIALS {
-        return NO_STATE;
-    }
-    if res != RESULT {
-        return NO_ANSWERS;
-    }
-    CARRIED_OUT
+    test_state(numbers, serials)?;
+    test_room(res)
 }
 
 // By the room for the result alone.
-pub fn test_room(res: usize) -> u32
-    ensures { result ≡ room_admission res }
+pub fn test_room(res: usize) -> Result<(), Unserved>
+    ensures { code_in result ≡ room_admission res }
 {
     if res != RESULT {
-        return NO_ANSWERS;
+        return Err(Unserved::NoAnswers);
     }
-    CARRIED_OUT
+    Ok(())
 }
 
-#[tactic(auto, using(crate::proofs::ResultLaws::two_put))]
+// Writes a number of refusal, and the length or the place that goes with it.
 pub fn put_result(res: &mut [u64], no: u32, n: usize)
     requires { length res.old ≡ RESULT }
     ensures { res.new ≡ result_numbers no n }
 {
-    res[0] = no as u64;
-    res[1] = n as u64;
+    res.copy_from_slice(&[no as u64, n as u64]);
 }

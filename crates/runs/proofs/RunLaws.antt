@@ -1,17 +1,18 @@
 -- A list of calls on lent numbers is a run of the rules' step. Assumes nothing.
-use Rattle.std.specs.Prelude.{◌≡◌, ◌&&◌, ◌||◌, ◌++◌, ◌+◌, ◌-◌, ◌*◌, ◌≤◌, ◌<◌}
-use Rattle.kit.specs.Names.{refl, sym, ap, ◌∙◌, subst, Bool, true, false, cond, List, [], ℕ, zero, suc, length, drop, sets, ltb, drop-length, arith}
+use Rattle.std.specs.Prelude.{◌≡◌, ◌&&◌, ◌||◌, ◌++◌, ◌+◌, ◌-◌, ◌*◌, ◌/◌, ◌≤◌, ◌<◌}
+use Rattle.kit.specs.Names.{refl, sym, ap, ◌∙◌, subst, Bool, true, false, cond, List, [], ℕ, zero, suc, length, get_or, drop, sets, ltb, drop-length, arith}
 use Rattle.rules.specs.Rules.{Answer, Call, Head, Sought, State, Table, table, head_of, answer_numbers, Outcome, outcome, sizes_of, stray, bad}
 use Rattle.rules.specs.Rules.{bad_table, step}
 use Rattle.rules.specs.declared.call.Call.TheVariants.{Rollback, Keys}
-use Rattle.rules.specs.declared.table.Sought.TheVariants.{Missing}
+use Rattle.std.specs.Prelude.{None}
 use Rattle.bad_state.proofs.GoodLaws.{bad_after}
 use Rattle.layout.specs.State.{Sized, head_in, state_by, headed}
 use Rattle.layout.proofs.LayoutLaws.{no_mark, commit_mark, actions_mark, changes_mark, numbers_state, headed_state, headed_length, headed_same}
 use Rattle.undo_log.specs.Settled.{mark_of, mark_for}
-use Rattle.coding.specs.Coding.{nothing, asked, CODES, form_of, fits, is_asked, asked_of, call_in, call_list, is_listed, calls_in, call_at}
+use Rattle.coding.specs.Coding.{nothing, asked, CODES, form_of, fits, is_asked, asked_of, asked_at, call_in, call_list, is_listed, calls_in, call_at}
 use Rattle.coding.specs.Answers.{answers_numbers}
-use Rattle.coding.proofs.CodingLaws.{known, made, Next, next_call}
+use Rattle.coding.proofs.CodingLaws.{known, made, Next, next_call, asked_chunk}
+use Rattle.std.specs.Simd.{first_chunks}
 use Rattle.runs.specs.Run.{run}
 use Rattle.runs.specs.Served.{Host, host, table_of, served}
 
@@ -19,14 +20,10 @@ use Rattle.runs.specs.Served.{Host, host, table_of, served}
 abbrev pub host_of : List ℕ → List ℕ → List ℕ → List ℕ → List ℕ → List ℕ → List ℕ → Host
 host_of ns ss p c a l answers = host ns ss record { parents = p; crowns = c; amounts = a } l answers
 
--- No lent list changes its length.
+-- The lent state and the room for answers keep their lengths.
 pub record Kept (h₀ h : Host) : Type 0 where
   pub numbers : length h.numbers ≡ length h₀.numbers
   pub serials : length h.serials ≡ length h₀.serials
-  pub parents : length h.rows.parents ≡ length h₀.rows.parents
-  pub crowns : length h.rows.crowns ≡ length h₀.rows.crowns
-  pub amounts : length h.rows.amounts ≡ length h₀.rows.amounts
-  pub log : length h.log ≡ length h₀.log
   pub answers : length h.answers ≡ length h₀.answers
 
 -- What is left to be done of the calls, from `at` on, leads to the same end.
@@ -149,10 +146,19 @@ module _ (h₀ : Host) (hd : Head) (b : Bool) (h : Host) (l : List ℕ) (at to :
             ∙ subst (λ (x : Table). (b || stray (head_of x.state)) ≡ bad_table x) (sym u) (bad_after (table_by hd h) (call_at l at) b k.is_bad);
       }
 
+  -- At the same places, said otherwise.
+  pub keeping_at : (at' to' : ℕ) → at ≡ at' → to ≡ to' → Keeping h₀ hd b h l at' to'
+  keeping_at at' to' p q = subst (λ (x : ℕ). Keeping h₀ hd b h l x to') p (subst (λ (y : ℕ). Keeping h₀ hd b h l at y) q k)
+
+-- Each four of a list are what stands at four times their place.
+pub four_of : (fours : List (List ℕ)) (l : List ℕ) (i : ℕ) → fours ≡ first_chunks 4 (length l / 4) l → i < length l / 4
+    → asked_at (get_or fours i []) 0 ≡ asked_at l (4 * i)
+four_of fours l i q h = ap (λ (f : List (List ℕ)). asked_at (get_or f i []) 0) q ∙ asked_chunk (length l / 4) i l h
+
 -- ---- codes that name no token
 
 module _ (s : State) (a b c : ℕ) where
-  form_names_none : (code : ℕ) → code < 10 → Missing ≡ mark_of s (form_of code a b c).1
+  form_names_none : (code : ℕ) → code < 10 → None ≡ mark_of s (form_of code a b c).1
   form_names_none zero h = refl
   form_names_none (suc zero) h = refl
   form_names_none (suc (suc zero)) h = refl
@@ -166,11 +172,11 @@ module _ (s : State) (a b c : ℕ) where
   form_names_none (suc (suc (suc (suc (suc (suc (suc (suc (suc (suc n)))))))))) h = absurd (omega arith)
 
   -- What is no call reads as one that names none either.
-  asked_none : (x : Call) (fine : Bool) → Missing ≡ mark_of s x → Missing ≡ mark_of s (call_in (cond fine (asked x) nothing))
+  asked_none : (x : Call) (fine : Bool) → None ≡ mark_of s x → None ≡ mark_of s (call_in (cond fine (asked x) nothing))
   asked_none x true e = e
   asked_none x false e = refl
 
-  pub code_names_none : (code : ℕ) → code < 10 → Missing ≡ mark_for s (call_in (asked_of code a b c))
+  pub code_names_none : (code : ℕ) → code < 10 → None ≡ mark_for s (call_in (asked_of code a b c))
   unfolding asked_of
   code_names_none code h =
       no_mark s (call_in (asked_of code a b c))

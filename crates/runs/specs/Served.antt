@@ -1,6 +1,8 @@
 -- All the lists that the host lends, and what calls that are carried out leave of them.
 use Rattle.kit.specs.Names.{List, ℕ, sets}
-use Rattle.rules.specs.Rules.{Call, Rows, Log, Table, table, rows_lent}
+use Rattle.rules.specs.declared.table.Lent.{Lent}
+use Rattle.rules.specs.Rules.{Call, Rows, Log, Table, table, rows_lent, rows_in, log_in}
+use Rattle.layout.specs.declared.state.LentState.{LentState}
 use Rattle.layout.specs.State.{state_of, state_numbers, state_serials}
 use Rattle.coding.specs.Answers.{answers_numbers}
 use Rattle.runs.specs.Run.{run}
@@ -30,3 +32,7 @@ served h cs =
 -- All that is lent, of what the slices hold.
 abbrev pub host_lent : List ℕ → List ℕ → List ℕ → List ℕ → List ℕ → List ℕ → List ℕ → Host
 host_lent ns ss p c a l answers = host ns ss (rows_lent p c a) l answers
+
+-- The same of the lent state and the lent parts as structs.
+abbrev pub host_in : LentState → Lent → List ℕ → Host
+host_in s t answers = host s.numbers.now s.serials.now (rows_in t) (log_in t) answers

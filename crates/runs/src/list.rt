@@ -1,102 +1,77 @@
-ghost use Rattle.std.specs.Prelude.{◌≡◌, true, ◌+◌, ◌*◌, ◌≤◌, length};
-ghost use Rattle.rules.specs.Rules.{rows_lent, table_lent, outcome, sizes_of, bad, step};
+ghost use Rattle.std.specs.Prelude.{◌≡◌, true, ◌*◌, ◌≤◌, length};
+ghost use Rattle.rules.specs.Rules.{rows_in, log_in, table_in, SameParts, outcome, sizes_of, bad, step};
 ghost use Rattle.undo_log.specs.Settled.{mark_for};
-ghost use Rattle.layout.specs.State.{Sized, state_by};
+ghost use Rattle.layout.specs.Lent.{SameState, state_under};
 ghost use Rattle.coding.specs.Coding.{is_asked, asked_at, call_at, call_list, is_listed, calls_in};
-ghost use Rattle.runs.specs.Served.{host_lent, served};
+ghost use Rattle.runs.specs.Served.{host_in, served};
 
-use bad_state::bad::{bad_after, bad_state, refuse_bad};
+use bad_state::bad::{bad_after, bad_lent, refuse_bad};
 use coding::coding::{CALL, QUESTIONS, TOKENS, call_at};
-use layout::state::{asked_mark, closing_mark, head_of};
+use layout::state::{LentState, asked_mark, closing_mark};
 use makers::answer::ANSWER;
 use numbered::one::carry_out;
-use rules::table::{Head, Sought};
+use rules::table::{Head, Lent, Mark};
 use undo_log::tokens::Settled;
 use write_answer::answers::put;
 use write_state::after::write_head;
 
-// The mark that the call at a place of a list is about. Most calls name no token, which their codes tell.
+// The mark that a call is about. Most calls name no token, which their codes tell.
 #[tactic(auto, using(crate::proofs::RunLaws::code_names_none, crate::proofs::RunLaws::code_closes, crate::proofs::RunLaws::code_asks))]
-fn sought_at(numbers: &[u32], serials: &[u64], calls: &[u64], at: usize, head: Head) -> Sought
-    requires sized { Sized numbers.now serials.now }
-    requires at_in_bounds { at + 4 ≤ length calls.now }
-    requires at_value { is_asked (asked_at calls.now at) ≡ true }
-    ensures { result ≡ mark_for (state_by head numbers.now serials.now) (call_at calls.now at) }
+fn sought_by(state: &LentState<'_>, call: &[u64; CALL], head: Head) -> Option<Mark>
+    requires { is_asked (asked_at call.now 0) ≡ true }
+    ensures { result ≡ mark_for (state_under head state.now) (call_at call.now 0) }
 {
-    if calls[at] < TOKENS {
-        return Sought::Missing;
+    let code = call[0];
+    let token = call[1];
+    if code < TOKENS {
+        return None;
     }
-    let token = calls[at + 1];
-    if calls[at] < QUESTIONS {
-        return closing_mark(numbers, serials, head, token);
+    if code < QUESTIONS {
+        return closing_mark(state, head, token);
     }
-    asked_mark(numbers, serials, head, token)
+    asked_mark(state, head, token)
 }
 
-// The call at a place of a list. Whether the table is bad is known from the call before, which is quicker than to find it out.
+// One call of a list. Whether the table is bad is known from the call before, which is quicker than to find it out. `is_bad` goes beside
+// `lent` with its fact: a struct can't hold a ghost field beside a `&mut`.
 #[tactic(auto, using(bad_state::proofs::GoodLaws::refused_bad))]
 pub fn next(
-    numbers: &mut [u32],
-    serials: &mut [u64],
-    parents: &mut [u32],
-    crowns: &mut [u32],
-    amounts: &mut [u64],
-    log: &mut [u32],
-    calls: &[u64],
-    at: usize,
+    state: &mut LentState<'_>,
+    lent: &mut Lent<'_>,
+    call: &[u64; CALL],
     head: Head,
     is_bad: bool,
 ) -> Settled
-    requires sized { Sized numbers.old serials.old }
-    requires at_in_bounds { at + 4 ≤ length calls.now }
-    requires at_value { is_asked (asked_at calls.now at) ≡ true }
-    requires is_bad_value { is_bad ≡ bad (sizes_of (rows_lent parents.old crowns.old amounts.old) log.old) head }
-    ensures { let t = table_lent parents.old crowns.old amounts.old log.old in
-        let after = table_lent parents.new crowns.new amounts.new log.new in
-        outcome result.answer (after (state_by result.head numbers.new serials.new))
-        ≡ step (t (state_by head numbers.old serials.old)) (call_at calls.now at) }
+    requires call_value { is_asked (asked_at call.now 0) ≡ true }
+    requires is_bad_value { is_bad ≡ bad (sizes_of (rows_in lent.old) (log_in lent.old)) head }
+    ensures same_state { SameState state.old state.new }
+    ensures same_parts { SameParts lent.old lent.new }
+    ensures value { outcome result.answer (table_in lent.new (state_under result.head state.new))
+        ≡ step (table_in lent.old (state_under head state.old)) (call_at call.now 0) }
 {
     if is_bad {
         return refuse_bad(head);
     }
-    let sought = sought_at(numbers, serials, calls, at, head);
-    let call = call_at(calls, at);
-    carry_out(
-        numbers, serials, parents, crowns, amounts, log, head, sought, call,
-    )
+    let sought = sought_by(state, call, head);
+    carry_out(state, lent, head, sought, call_at(call, 0))
 }
 
 // Carries out a list that is one of calls, with room for the answers. The head goes from call to call by value, and is written once.
-pub fn run(
-    numbers: &mut [u32],
-    serials: &mut [u64],
-    parents: &mut [u32],
-    crowns: &mut [u32],
-    amounts: &mut [u64],
-    log: &mut [u32],
-    calls: &[u64],
-    answers: &mut [u64],
-)
-    requires sized { Sized numbers.old serials.old }
+pub fn run(state: &mut LentState<'_>, lent: &mut Lent<'_>, calls: &[u64], answers: &mut [u64])
     requires calls_value { is_listed (call_list calls.now) ≡ true }
     requires calls_bound { 9 * length calls.now ≤ 4 * length answers.old }
-    ensures { let h = host_lent numbers.old serials.old parents.old crowns.old amounts.old log.old answers.old in
-        let after = host_lent numbers.new serials.new parents.new crowns.new amounts.new log.new answers.new in
-        after ≡ served h (calls_in (call_list calls.now)) }
+    ensures same_state { SameState state.old state.new }
+    ensures same_parts { SameParts lent.old lent.new }
+    ensures value { host_in state.new lent.new answers.new ≡ served (host_in state.old lent.old answers.old) (calls_in (call_list calls.now)) }
 {
-    let mut head = head_of(numbers);
-    let mut is_bad = bad_state(head, parents.len(), crowns.len(), amounts.len(), log.len());
-    let mut at = 0;
-    let mut to = 0;
-    while at < calls.len() {
-        let settled = next(
-            numbers, serials, parents, crowns, amounts, log, calls, at, head, is_bad,
-        );
-        put(answers, to, settled.answer);
+    let mut head = state.head();
+    let mut is_bad = bad_lent(head, lent);
+    let (fours, _) = calls.as_chunks();
+    for (i, call) in fours.iter().enumerate() {
+        let settled = next(state, lent, call, head, is_bad);
+        put(answers, i * ANSWER, settled.answer);
         head = settled.head;
         is_bad = bad_after(is_bad, head);
-        at += CALL;
-        to += ANSWER;
     }
-    write_head(numbers, head);
+    write_head(state, head);
 }

@@ -10,10 +10,5 @@ pub fn put(answers: &mut [u64], at: usize, answer: Answer)
     requires { at + 9 ≤ length answers.old }
     ensures { answers.new ≡ sets answers.old at (answer_numbers answer) }
 {
-    let fields = answer_numbers(answer);
-    let mut i = 0;
-    while i < ANSWER {
-        answers[at + i] = fields[i];
-        i += 1;
-    }
+    answers[at..at + ANSWER].copy_from_slice(&answer_numbers(answer));
 }

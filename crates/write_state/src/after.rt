@@ -1,25 +1,27 @@
 // The numbers that a call leaves, written.
-ghost use Rattle.std.specs.Prelude.{◌≡◌, length};
+ghost use Rattle.std.specs.Prelude.{◌≡◌};
 ghost use Rattle.undo_log.specs.Settled.{state_after};
-ghost use Rattle.layout.specs.State.{NUMBERS, Sized, state_by, headed};
+ghost use Rattle.layout.specs.State.{headed};
+ghost use Rattle.layout.specs.Lent.{SameState, state_under};
 
+use layout::state::LentState;
 use rules::numbers::MAX_OPEN;
 use rules::table::Head;
 use undo_log::tokens::Settled;
 
 // Makes the numbers stand for the state that a call leaves, but for its head, which is the caller's to keep: where the call opened a
-// snapshot, the token and the mark.
+// snapshot, the token and the mark. Where each number stands is C's (docs/LIBRARY.md), so it is written by its place.
 #[tactic(auto, using(layout::proofs::LayoutLaws::after_level, layout::proofs::LayoutLaws::after_beyond, layout::proofs::LayoutLaws::after_opened))]
-pub fn write_after(numbers: &mut [u32], serials: &mut [u64], before: Head, settled: Settled)
-    requires { Sized numbers.old serials.old }
-    ensures { state_by settled.head numbers.new serials.new
-        ≡ state_after (state_by before numbers.old serials.old) settled }
+pub fn write_after(state: &mut LentState<'_>, before: Head, settled: Settled)
+    ensures same_state { SameState state.old state.new }
+    ensures value { state_under settled.head state.new ≡ state_after (state_under before state.old) settled }
 {
-    let head = settled.head;
+    let Settled { answer, head } = settled;
     if head.open <= before.open {
         return;
     }
-    let answer = settled.answer;
+    let numbers = &mut *state.numbers;
+    let serials = &mut *state.serials;
     serials[0] = answer.token;
     if before.open >= MAX_OPEN {
         return;
@@ -32,11 +34,12 @@ pub fn write_after(numbers: &mut [u32], serials: &mut [u64], before: Head, settl
 }
 
 // Writes a head that was kept.
-pub fn write_head(numbers: &mut [u32], head: Head)
-    requires { length numbers.old ≡ NUMBERS }
-    ensures { numbers.new ≡ headed numbers.old head }
+pub fn write_head(state: &mut LentState<'_>, head: Head)
+    ensures same_state { SameState state.old state.new }
+    ensures numbers { state.new.numbers.now ≡ headed state.old.numbers.now head }
+    ensures serials { state.new.serials.now ≡ state.old.serials.now }
 {
-    numbers[0] = head.count;
-    numbers[1] = head.used;
-    numbers[2] = head.open;
+    state.numbers[0] = head.count;
+    state.numbers[1] = head.used;
+    state.numbers[2] = head.open;
 }

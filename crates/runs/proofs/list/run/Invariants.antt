@@ -1,12 +1,15 @@
 -- What is left of the calls leads to the same end.
-use Rattle.std.proofs.Common.{◌-◌, length}
-use Rattle.runs.proofs.RunLaws.{host_of, Keeping}
+use Rattle.std.proofs.Common.{◌*◌}
+use Rattle.rules.specs.Rules.{SameParts}
+use Rattle.layout.specs.Lent.{SameState}
+use Rattle.runs.specs.Served.{host_in}
+use Rattle.runs.proofs.RunLaws.{Keeping}
 use Rattle.runs.proofs.list.run.Given as goal
 
-abbrev pub invariant-loop-at : goal.invariant-loop-at
-invariant-loop-at l =
-    Keeping (host_of l.fn.numbers l.fn.serials l.fn.parents l.fn.crowns l.fn.amounts l.fn.log l.fn.answers) l.head l.is_bad
-    (host_of l.numbers l.serials l.parents l.crowns l.amounts l.log l.answers) l.calls l.at l.to
-
-abbrev pub decreases-loop-at : goal.decreases-loop-at
-decreases-loop-at l = length l.calls - l.at
+abbrev pub invariant-loop-i : goal.invariant-loop-i
+invariant-loop-i l =
+    record {
+      same_state : SameState l.fn.state l.state;
+      same_parts : SameParts l.fn.lent l.lent;
+      keeping : Keeping (host_in l.fn.state l.fn.lent l.fn.answers) l.head l.is_bad (host_in l.state l.lent l.answers) l.calls (4 * l.i) (l.i * 9);
+    }
