@@ -1,32 +1,30 @@
 -- A segment written behind a journal, and what an append answers. Assumes nothing.
 use Rattle.std.specs.Prelude.{◌≡◌, ◌||◌, ◌&&◌, ◌++◌, ◌+◌, ◌*◌, ◌-◌, ◌/◌, ◌≤◌, ◌<◌}
-use Rattle.kit.specs.Names.{sym, ap, ◌∙◌, Bool, true, false, not, ℕ}
-use Rattle.kit.specs.Names.{length, take, drop, sets, take-length, ltb, arith, lt-ltb, le-ltb, not-true, not-false}
+use Rattle.kit.specs.Names.{refl, sym, ap, ◌∙◌, Bool, true, false, not, ℕ}
+use Rattle.kit.specs.Names.{length, take, sets, ltb, arith, lt-ltb, le-ltb, not-true, not-false}
 use lib.Seq.{sets-eq}
 use Rattle.rules.specs.Rules.{DONE}
-use Rattle.digits.specs.Printed.{Printed}
+use borrow.Rule.Slice.PartMut.{put_mid}
 use Rattle.journal.specs.Numbers.{ENTRY-BYTES, TRAILER-BYTES}
 use Rattle.journal.specs.Entry.{Bytes}
 use Rattle.journal.specs.Journal.{trailer_bytes, trailer_of, journal_of, valid}
 use Rattle.journal.specs.Append.{Appended, segments_of, fills, segment, declined, append}
 use Rattle.journal.proofs.AppendLaws.{length_segment}
 use Rattle.valid.specs.Place.{segments_told}
-use Rattle.write_entry.proofs.ByteLaws.{then}
+use Rattle.write_entry.proofs.ByteLaws.{then, copied}
 use Rattle.appending.specs.Takes.{takes, fills_by, with_segment}
 use Rattle.appending.proofs.TakesLaws.{filling, taken}
 
--- Bytes that were put at a place.
-printed_sets : (bs cs xs : Bytes) (at end : ℕ) → Printed bs cs at xs end → cs ≡ sets bs at xs
-printed_sets bs cs xs at end p = p.stands ∙ ap (λ (ys : Bytes). take at bs ++ ys ++ drop (at + length xs) bs) (take-length xs) ∙ sym (sets-eq xs bs at p.room)
-
 -- The entries, and then the trailer.
-pub segment_written : (bs cs ds entries : Bytes) (used number end : ℕ) → Printed bs cs used entries end → fills_by (length entries) ≡ true
-    → used + length entries + TRAILER-BYTES ≤ length bs → ds ≡ sets cs end (trailer_bytes (trailer_of number (length entries / ENTRY-BYTES)))
+pub segment_written : (bs ys ds entries : Bytes) (used number : ℕ) → ys ≡ entries → fills_by (length entries) ≡ true
+    → used + length entries + TRAILER-BYTES ≤ length bs
+    → ds ≡ sets (put_mid used (used + length entries - used) bs ys) (used + length entries) (trailer_bytes (trailer_of number (length entries / ENTRY-BYTES)))
     → ds ≡ with_segment bs used (segment number entries)
-segment_written bs cs ds entries used number end p f room e =
+segment_written bs ys ds entries used number c f room e =
     let trailer = trailer_bytes (trailer_of number (length entries / ENTRY-BYTES)) in
     let whole : 24 * (length entries / 24) ≡ length entries = sym (filling (length entries) f).whole in
-    let all = then bs entries trailer used end (printed_sets bs cs entries used end p) p.place e in
+    let end = used + length entries in
+    let all = then bs entries trailer used end (copied bs ys entries used end c (omega arith) (omega arith)) refl e in
     let same : entries ++ trailer ≡ segment number entries = rw whole in
     all ∙ ap (sets bs used) same ∙ sets-eq (segment number entries) bs used (omega (arith, length_segment number entries))
 

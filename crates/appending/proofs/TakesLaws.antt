@@ -1,7 +1,7 @@
 -- When a journal takes one segment more: what is appended says how many snapshots may be open before it. Assumes nothing.
 use Rattle.std.specs.Prelude.{◌≡◌, ◌||◌, ◌&&◌, ◌∷◌, ◌++◌, ◌+◌, ◌*◌, ◌/◌, ◌≤◌, ◌<◌}
 use Rattle.kit.specs.Names.{refl, sym, ap, ◌∙◌, Bool, true, false, not, List, [], ℕ, suc}
-use Rattle.kit.specs.Names.{length, take, eqb, leb, ltb, arith, eq-eqb, ne_eqb, le-leb, lt-leb, lt-ltb, le-ltb, ltb-true, ltb-false, leb-true, eqb-true}
+use Rattle.kit.specs.Names.{length, take, eqb, leb, ltb, arith, lt-ltb, le-ltb, ltb-true, ltb-false, leb-true, eqb-true}
 use mathlib.Core.Bool.{and-false}
 use Rattle.rules.specs.Rules.{WORD}
 use Rattle.journal.specs.declared.entry.Entry.{Entry}
@@ -24,16 +24,6 @@ use Rattle.appending.specs.Takes.{takes, fills_by}
 module _ (long : ℕ) where
   abbrev count : ℕ
   count = long / ENTRY-BYTES
-
-  pub not_whole : (long ≡ ENTRY-BYTES * count → ⊥) → false ≡ fills_by long
-  not_whole h = rw (ne_eqb long (ENTRY-BYTES * count) h)
-
-  module _ (whole : long ≡ ENTRY-BYTES * count) where
-    pub too_few : count < 1 → false ≡ fills_by long
-    too_few h = rw (eq-eqb long (ENTRY-BYTES * count) whole, lt-leb 1 count h)
-
-    pub some : 1 ≤ count → leb count SEGMENT ≡ fills_by long
-    some h = rw (eq-eqb long (ENTRY-BYTES * count) whole, le-leb 1 count h)
 
   pub record Filling : Type 0 where
     pub whole : long ≡ ENTRY-BYTES * count

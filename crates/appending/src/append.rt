@@ -1,52 +1,37 @@
 ghost use Rattle.std.specs.Prelude.{◌≡◌, ◌+◌, length};
-ghost use Rattle.journal.specs.Numbers.{TRAILER-BYTES};
 ghost use Rattle.journal.specs.Append.{segment, append};
 ghost use Rattle.appending.specs.Takes.{Writable, with_segment};
 ghost use Rattle.appending.specs.Outcome.{appended_to};
 
 use crate::takes::takes;
-use digits::put::put_bytes;
 use journal::entry::{ENTRY_BYTES, TRAILER_BYTES};
-use rules::numbers::{BAD_JOURNAL, DONE, NO_ROOM};
+use rules::refusal::Refusal;
 use valid::valid::segments;
 use write_entry::entry::put_trailer;
 
-// A number, and the journal's length afterwards.
-#[derive(Drop)]
-pub struct Appended {
-    pub no: u32,
-    pub used: usize,
-}
-
 // Entries as the segment of this number.
-fn write_segment(buffer: &mut [u8], used: usize, entries: &[u8], number: usize) -> usize
+fn write_segment(buffer: &mut [u8], used: usize, entries: &[u8], number: usize)
     requires { Writable (length buffer.old) used (length entries.now) number }
-    ensures { (result ≡ used + length entries.now + TRAILER-BYTES)
-        × (buffer.new ≡ with_segment buffer.old used (segment number entries.now)) }
+    ensures { buffer.new ≡ with_segment buffer.old used (segment number entries.now) }
 {
-    let at = put_bytes(buffer, used, entries);
+    let end = used + entries.len();
+    buffer[used..end].copy_from_slice(entries);
     let count = entries.len() / ENTRY_BYTES;
-    put_trailer(buffer, at, number as u32, count as u32);
-    at + TRAILER_BYTES
+    put_trailer(buffer, end, number as u32, count as u32);
 }
 
-// "12 when the journal isn't valid or wouldn't be with it, then 16 NO_ROOM exactly when it is longer than the room left."
-pub fn append(buffer: &mut [u8], used: usize, entries: &[u8]) -> Appended
-    ensures { appended_to result buffer.new ≡ append buffer.old used entries.now }
+// The journal's length afterwards. "12 when the journal isn't valid or wouldn't be with it, then 16 NO_ROOM exactly when it is longer than
+// the room left." The journal is a buffer and how much of it is used, as in C's `meter_append` and in the clause's `append`.
+pub fn append(buffer: &mut [u8], used: usize, entries: &[u8]) -> Result<usize, Refusal>
+    ensures { appended_to used result buffer.new ≡ append buffer.old used entries.now }
 {
     if !takes(buffer, used, entries) {
-        return Appended {
-            no: BAD_JOURNAL,
-            used,
-        };
+        return Err(Refusal::BadJournal);
     }
     if buffer.len() - used < entries.len() + TRAILER_BYTES {
-        return Appended { no: NO_ROOM, used };
+        return Err(Refusal::NoRoom);
     }
-    let number = segments(&buffer[0..used]);
-    let after = write_segment(buffer, used, entries, number);
-    Appended {
-        no: DONE,
-        used: after,
-    }
+    let number = segments(&buffer[..used]);
+    write_segment(buffer, used, entries, number);
+    Ok(used + entries.len() + TRAILER_BYTES)
 }

@@ -1,6 +1,6 @@
 -- A valid journal gone through from the front leaves as many snapshots open as its entries do. Assumes nothing.
-use Rattle.std.specs.Prelude.{◌≡◌, ◌+◌, ◌-◌, ◌≤◌, ◌<◌}
-use Rattle.kit.specs.Names.{refl, sym, ap, ◌∙◌, true, true≢false, subst, List, ℕ, length, arith, ne_eqb, lt-ltb, le-ltb, ltb-true}
+use Rattle.std.specs.Prelude.{◌≡◌, ◌+◌, ◌≤◌, ◌<◌}
+use Rattle.kit.specs.Names.{refl, sym, ap, ◌∙◌, true, true≢false, subst, List, ℕ, length, arith, ltb-true}
 use Rattle.rules.specs.Rules.{MAX-OPEN}
 use Rattle.journal.specs.declared.entry.Entry.{Entry}
 use Rattle.journal.specs.declared.entry.Entry.TheVariants.{EntryNew, EntryPost, EntryJoin, EntrySnapshot, EntryRollback, EntryCommit, NoEntry}
@@ -19,17 +19,6 @@ use Rattle.valid.proofs.PlaceLaws.{told_right}
 use Rattle.counting.specs.Counted.{open_at_end, open_past}
 
 -- ---- an entry by its kind
-
-module _ (n kind : ℕ) where
-  pub opens_one : kind ≡ ENTRY-SNAPSHOT → n + 1 ≡ open_past n kind
-  opens_one e = rw e (omega arith)
-
-  module _ (other : kind ≡ ENTRY-SNAPSHOT → ⊥) where
-    pub closes_one : ENTRY-SNAPSHOT < kind → n - 1 ≡ open_past n kind
-    closes_one h = rw (ne_eqb kind ENTRY-SNAPSHOT other, lt-ltb ENTRY-SNAPSHOT kind h) (omega arith)
-
-    pub keeps_open : kind ≤ ENTRY-SNAPSHOT → n ≡ open_past n kind
-    keeps_open h = rw (ne_eqb kind ENTRY-SNAPSHOT other, le-ltb ENTRY-SNAPSHOT kind h) (omega arith)
 
 -- What may stand is an entry, and what closes a snapshot stands where one is open.
 stands : (n kind a b owner amount : ℕ) → may_stand n (entry_of kind a b owner amount) ≡ true → is_entry (entry_of kind a b owner amount) ≡ true

@@ -7,6 +7,7 @@ ghost use Rattle.counting.specs.Counted.{open_past, open_at_end};
 
 use journal::entry::{ENTRY_BYTES, ENTRY_SNAPSHOT, TRAILER_BYTES};
 use little_endian::read::u32_at;
+use std::cmp::Ordering;
 
 // After an entry of this kind. Kinds above a snapshot's close one.
 fn open_after(before: u32, kind: u32) -> u32
@@ -14,17 +15,15 @@ fn open_after(before: u32, kind: u32) -> u32
     requires before_nonzero { ENTRY-SNAPSHOT < kind → 0 < before }
     ensures { result ≡ open_past before kind }
 {
-    if kind == ENTRY_SNAPSHOT {
-        return before + 1;
+    match kind.cmp(&ENTRY_SNAPSHOT) {
+        Ordering::Less => before,
+        Ordering::Equal => before + 1,
+        Ordering::Greater => before - 1,
     }
-    if kind > ENTRY_SNAPSHOT {
-        return before - 1;
-    }
-    before
 }
 
 // A valid journal, entry by entry from the front: an entry begins with its kind, and a trailer, which is passed over, with its distance,
-// which is at least an entry's length.
+// which is at least an entry's length. What stands at a place says how far it is to the next one, so the place is no `for`'s.
 pub fn open_at_end(bytes: &[u8]) -> u32
     requires { valid bytes.now ≡ true }
     ensures { result ≡ open_at_end bytes.now }

@@ -6,50 +6,34 @@ use journal::entry::{ENTRY_COMMIT, ENTRY_JOIN, ENTRY_NEW, ENTRY_POST};
 use little_endian::read::{u32_at, u64_at};
 
 // How large a number may be that entries of two kinds alone use.
-const UNUSED: u64 = 0;
-
-const ANY: u64 = 18446744073709551615;
-
 fn most(kind: u32, one: u32, other: u32) -> u64
     ensures { result ≡ most_of kind one other }
 {
-    if kind == one {
-        return ANY;
+    if kind == one || kind == other {
+        u64::MAX
+    } else {
+        0
     }
-    if kind == other {
-        return ANY;
-    }
-    UNUSED
 }
 
 fn is_kind(kind: u32) -> bool
     ensures { result ≡ is_kind kind }
 {
-    if kind < ENTRY_NEW {
-        return false;
-    }
-    kind <= ENTRY_COMMIT
+    (ENTRY_NEW..=ENTRY_COMMIT).contains(&kind)
 }
 
 // Whether five numbers are an entry. Q-1: "New uses owner and amount, post also key a, join both keys; unused fields are 0." The tests go
-// by limits, so that entries of all kinds take the same way.
+// by limits, so that entries of all kinds take the same way. They are no struct, as `Fields` of `write_entry` is for a writer's fields:
+// they are read, tested and not kept.
 pub fn is_entry(kind: u32, a: u32, b: u32, owner: u32, amount: u64) -> bool
     ensures { result ≡ is_entry (entry_of kind a b owner amount) }
 {
-    if (a as u64) > most(kind, ENTRY_POST, ENTRY_JOIN) {
-        return false;
-    }
-    if (b as u64) > most(kind, ENTRY_JOIN, ENTRY_JOIN) {
-        return false;
-    }
     let value = most(kind, ENTRY_NEW, ENTRY_POST);
-    if (owner as u64) > value {
-        return false;
-    }
-    if amount > value {
-        return false;
-    }
-    is_kind(kind)
+    u64::from(a) <= most(kind, ENTRY_POST, ENTRY_JOIN)
+        && u64::from(b) <= most(kind, ENTRY_JOIN, ENTRY_JOIN)
+        && u64::from(owner) <= value
+        && amount <= value
+        && is_kind(kind)
 }
 
 // Whether an entry stands at a place.

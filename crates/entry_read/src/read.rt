@@ -11,25 +11,16 @@ pub fn entry_at(bytes: &[u8], at: usize) -> Entry
     requires at_value { is_entry (read_entry bytes.now at) ≡ true }
     ensures { result ≡ read_entry bytes.now at }
 {
-    let kind = u32_at(bytes, at);
-    if kind == ENTRY_POST {
-        return Entry::EntryPost(
+    match u32_at(bytes, at) {
+        ENTRY_NEW => Entry::EntryNew(u32_at(bytes, at + 12), u64_at(bytes, at + 16)),
+        ENTRY_POST => Entry::EntryPost(
             u32_at(bytes, at + 4),
             u32_at(bytes, at + 12),
             u64_at(bytes, at + 16),
-        );
+        ),
+        ENTRY_JOIN => Entry::EntryJoin(u32_at(bytes, at + 4), u32_at(bytes, at + 8)),
+        ENTRY_SNAPSHOT => Entry::EntrySnapshot,
+        ENTRY_ROLLBACK => Entry::EntryRollback,
+        _ => Entry::EntryCommit,
     }
-    if kind == ENTRY_JOIN {
-        return Entry::EntryJoin(u32_at(bytes, at + 4), u32_at(bytes, at + 8));
-    }
-    if kind == ENTRY_NEW {
-        return Entry::EntryNew(u32_at(bytes, at + 12), u64_at(bytes, at + 16));
-    }
-    if kind == ENTRY_SNAPSHOT {
-        return Entry::EntrySnapshot;
-    }
-    if kind == ENTRY_ROLLBACK {
-        return Entry::EntryRollback;
-    }
-    Entry::EntryCommit
 }

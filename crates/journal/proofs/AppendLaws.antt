@@ -13,7 +13,7 @@ use Rattle.rules.specs.Rules.{DONE, WORD}
 use Rattle.journal.specs.declared.entry.Entry.{Entry}
 use Rattle.journal.specs.Numbers.{ENTRY-BYTES, TRAILER-BYTES, SEGMENT}
 use Rattle.journal.specs.Entry.{Bytes, little_endian, little_at, entries_at, entries_bytes, AllProper}
-use Rattle.journal.specs.Journal.{trailer_bytes, Journal, no_journal, journal, followed, read_to, orderly, open_in, tested, journal_of, is_journal}
+use Rattle.journal.specs.Journal.{trailer_bytes, Journal, no_journal, journal, followed, read_to, orderly, open_in, journal_of, is_journal}
 use Rattle.journal.specs.Journal.{valid}
 use Rattle.journal.specs.Append.{Appended, segments_of, entries_of, fills, entries_in, segment, declined, append}
 use Rattle.journal.specs.Kept.{Kept, Untouched}

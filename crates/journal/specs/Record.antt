@@ -1,10 +1,11 @@
 -- Document 02, Q-1: a call carried out and written. "Exactly the DONE calls of these six kinds are written, in order." Entries wait
 -- behind the journal's bytes until their segment is ended by a trailer: at the 2048th, or when it is asked for.
-use Rattle.std.specs.Prelude.{◌&&◌, ◌||◌, ◌∷◌, ◌+◌, ◌*◌}
+use Rattle.std.specs.Prelude.{◌≡◌, ◌&&◌, ◌||◌, ◌∷◌, ◌+◌, ◌*◌}
 use Rattle.kit.specs.Names.{Bool, false, true, cond, not, List, [], ℕ, suc, sets, length, eqb, leb, ltb}
 use Rattle.rules.specs.Rules.{Call, Answer, WORD, DONE, Table, refusal, step, BAD-JOURNAL, NO-ROOM}
 use Rattle.journal.specs.declared.entry.Entry.{Entry}
 use Rattle.journal.specs.declared.known.Known.{Known}
+use Rattle.journal.specs.declared.known.Book as declared_book
 use Rattle.journal.specs.Numbers.{ENTRY-BYTES, TRAILER-BYTES, SEGMENT}
 use Rattle.journal.specs.Entry.{Bytes, entry_bytes}
 use Rattle.journal.specs.Journal.{trailer_bytes, trailer_of}
@@ -37,6 +38,13 @@ pub record Book : Type 0 where
 
 abbrev pub book : Bytes → Known → Book
 book bs k = record { bytes = bs; known = k }
+
+-- The same of a journal that is lent with what is known of it, and that it is the same buffer still.
+abbrev pub book_in : declared_book.Book → Book
+book_in j = book j.bytes.now j.known
+
+abbrev pub SameBook : declared_book.Book → declared_book.Book → Type 0
+SameBook j j' = j.bytes.ghost_name ≡ j'.bytes.ghost_name
 
 -- The waiting entries made a segment.
 abbrev pub sealed : Bytes → Known → Book

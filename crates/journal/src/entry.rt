@@ -1,6 +1,8 @@
 // Document 02, Q-1: what the journal's entries are.
 
-// An entry of the journal. `NoEntry` is what bytes of no known kind, or with a number where none is used, read as.
+// An entry of the journal. `NoEntry` is what bytes of no known kind, or with a number where none is used, read as. It is a case of the
+// entry and no `None` beside it: `Journal.entries_at` lists what stands at each place, `put_entry` writes any of them, and an
+// `Option` would have those two, and the theorems over them, ask for more than they do.
 #[derive(Clone, Copy)]
 pub enum Entry {
     EntryNew(u32, u64),
@@ -12,7 +14,8 @@ pub enum Entry {
     NoEntry,
 }
 
-// "kind (1 new, 2 post, 3 join, 4 snapshot, 5 rollback, 6 commit)"
+// "kind (1 new, 2 post, 3 join, 4 snapshot, 5 rollback, 6 commit)". They are numbers, as they stand in the bytes: `Entry` is the enum of
+// the kinds, and a second one, of the kinds alone, would have a case for each of its cases and a number for each besides.
 pub const ENTRY_NEW: u32 = 1;
 
 pub const ENTRY_POST: u32 = 2;

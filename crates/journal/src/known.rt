@@ -7,3 +7,10 @@ pub struct Known {
     pub open: u32,
     pub waiting: usize,
 }
+
+// A journal that is added to: the bytes lent for it, and what is known of it.
+#[derive(Drop)]
+pub struct Book<'a> {
+    pub bytes: &'a mut [u8],
+    pub known: Known,
+}

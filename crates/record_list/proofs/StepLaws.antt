@@ -1,7 +1,9 @@
 -- A call that is written, from the number that bars it, what it comes to and what is put down. Assumes nothing.
 use Rattle.std.specs.Prelude.{◌≡◌, ◌||◌, ◌&&◌}
 use Rattle.kit.specs.Names.{refl, sym, ap, ◌∙◌, Bool, true, false, cond, [], ℕ, length, eqb, arith}
-use Rattle.rules.specs.Rules.{Answer, Call, Table, DONE, head_of, refusal, Outcome, outcome, sizes_of, stray, bad_table, step}
+use Rattle.rules.specs.declared.refusal.Refusal.{Refusal}
+use Rattle.rules.specs.declared.refusal.Refusal.TheVariants.{NoKey, KeysFull, LogFull, OwnerClash, TooMuch, NotInnermost, TooDeep, BrokenTable, BadState, SerialsSpent, NotOpen, BadJournal, NoRoom}
+use Rattle.rules.specs.Rules.{Answer, Call, Table, DONE, code_of, head_of, refusal, Outcome, outcome, sizes_of, stray, bad_table, step}
 use Rattle.rules.proofs.StateLaws.{roomy_bad, good_roomy, bad_good}
 use Rattle.bad_state.proofs.GoodLaws.{bad_after}
 use Rattle.journal.specs.declared.known.Known.{Known}
@@ -10,6 +12,22 @@ use Rattle.journal.specs.Written.{entry_for}
 use Rattle.journal.specs.Record.{Book, book, mismatched, too_long, is_written, put_down, Recorded, recorded, written_down, record_step}
 use Rattle.recording.specs.Barred.{barred, RoomForOne}
 use Rattle.recording.proofs.BarredLaws.{room_for_one}
+
+-- No refusal's number is DONE.
+no_done : (w : Refusal) → code_of w ≡ DONE → ⊥
+no_done NoKey e = absurd (omega arith)
+no_done KeysFull e = absurd (omega arith)
+no_done LogFull e = absurd (omega arith)
+no_done OwnerClash e = absurd (omega arith)
+no_done TooMuch e = absurd (omega arith)
+no_done NotInnermost e = absurd (omega arith)
+no_done TooDeep e = absurd (omega arith)
+no_done BrokenTable e = absurd (omega arith)
+no_done BadState e = absurd (omega arith)
+no_done SerialsSpent e = absurd (omega arith)
+no_done NotOpen e = absurd (omega arith)
+no_done BadJournal e = absurd (omega arith)
+no_done NoRoom e = absurd (omega arith)
 
 module _ (bs : Bytes) (k : Known) (t : Table) (c : Call) where
   abbrev mine : Bool
@@ -20,16 +38,16 @@ module _ (bs : Bytes) (k : Known) (t : Table) (c : Call) where
 
   -- ---- the two refusals
 
-  pub kept_off : (n : ℕ) → n ≡ barred mine k opened (length bs) → (n ≡ DONE → ⊥) → recorded (refusal n) t (book bs k) ≡ record_step bs k t c
+  pub kept_off : (w : Refusal) → code_of w ≡ barred mine k opened (length bs) → recorded (refusal (code_of w)) t (book bs k) ≡ record_step bs k t c
   unfolding record_step
-  kept_off n e d = go (mine && mismatched k opened) (mine && too_long 1 (length bs) k) e
+  kept_off w e = go (mine && mismatched k opened) (mine && too_long 1 (length bs) k) e
     where
-      go : (x y : Bool) → n ≡ cond x 12 (cond y 16 DONE)
-          → recorded (refusal n) t (book bs k) ≡ cond x (recorded (refusal 12) t (book bs k))
+      go : (x y : Bool) → code_of w ≡ cond x 12 (cond y 16 DONE)
+          → recorded (refusal (code_of w)) t (book bs k) ≡ cond x (recorded (refusal 12) t (book bs k))
           (cond y (recorded (refusal 16) t (book bs k)) (written_down bs k t c))
       go true y e = rw e
       go false true e = rw e
-      go false false e = absurd (d e)
+      go false false e = absurd (no_done w e)
 
   let_through : barred mine k opened (length bs) ≡ DONE → written_down bs k t c ≡ record_step bs k t c
   unfolding record_step

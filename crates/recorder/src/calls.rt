@@ -2,17 +2,22 @@
 ghost use Rattle.std.specs.Prelude.{◌≡◌};
 ghost use Rattle.coding.specs.Coding.{call_list};
 ghost use Rattle.runs.specs.Served.{host_lent};
+ghost use Rattle.recording.specs.Barred.{no_of};
 ghost use Rattle.recorder.specs.Journals.{returned, record_lent, serve_record, flush_lent, serve_flush, append_lent, serve_append, known_lent, serve_known};
 
-use admit::tests::CARRIED_OUT;
+use admit::tests::{CARRIED_OUT, NO_STATE};
 use appending::append::append;
 use counting::known::known_of;
+use journal::known::Book;
 use known_numbers::known::{known_in, put_known};
 use known_numbers::tests::{test_flush, test_known, test_record};
+use layout::state::LentState;
 use record_list::list::run_recorded;
 use recording::segment::flush;
 use results::results::{put_result, test_room};
 use rules::numbers::{BAD_JOURNAL, DONE};
+use rules::refusal::Refusal;
+use rules::table::Lent;
 use valid::valid::valid;
 
 // Carries out a list of calls, which is tested whole before its first call, and writes those of the journal's kinds that are answered DONE.
@@ -34,16 +39,40 @@ pub extern "C" fn meter_record(
         returned result (record_lent after journal.new known.new)
         ≡ serve_record (record_lent h journal.old known.old) (call_list calls.now) }
 {
-    let code = test_record(numbers.len(), serials.len(), calls, answers.len(), known);
-    if code != CARRIED_OUT {
-        return code;
+    if let Err(unserved) = test_record(numbers.len(), serials.len(), calls, answers.len(), known) {
+        return unserved.code();
     }
+    let Some(numbers) = numbers.as_mut_array() else {
+        return NO_STATE;
+    };
+    let Some(serials) = serials.as_mut_array() else {
+        return NO_STATE;
+    };
+    let mut state = LentState { numbers, serials };
+    let mut lent = Lent {
+        parents,
+        crowns,
+        amounts,
+        log,
+    };
     let before = known_in(known);
-    let after = run_recorded(
-        numbers, serials, parents, crowns, amounts, log, calls, answers, journal, before,
-    );
-    put_known(known, after);
-    code
+    let mut book = Book {
+        bytes: journal,
+        known: before,
+    };
+    run_recorded(&mut state, &mut lent, &mut book, calls, answers);
+    put_known(known, book.known);
+    CARRIED_OUT
+}
+
+// What C reads of a refusal, or of none.
+fn number_of(done: Result<(), Refusal>) -> u32
+    ensures { result ≡ no_of done }
+{
+    match done {
+        Ok(()) => DONE,
+        Err(why) => why.code(),
+    }
 }
 
 // Makes the entries that wait a segment.
@@ -52,15 +81,18 @@ pub extern "C" fn meter_flush(journal: &mut [u8], known: &mut [u64], res: &mut [
     ensures { returned result (flush_lent journal.new known.new res.new)
         ≡ serve_flush (flush_lent journal.old known.old res.old) }
 {
-    let code = test_flush(known, res.len());
-    if code != CARRIED_OUT {
-        return code;
+    if let Err(unserved) = test_flush(known, res.len()) {
+        return unserved.code();
     }
-    let flushed = flush(journal, known_in(known));
-    let left = flushed.known;
+    let mut book = Book {
+        bytes: journal,
+        known: known_in(known),
+    };
+    let no = number_of(flush(&mut book));
+    let left = book.known;
     put_known(known, left);
-    put_result(res, flushed.no, left.used);
-    code
+    put_result(res, no, left.used);
+    CARRIED_OUT
 }
 
 // Appends entries as one segment.
@@ -74,13 +106,14 @@ pub extern "C" fn meter_append(
     ensures { returned result (append_lent journal.new res.new)
         ≡ serve_append (append_lent journal.old res.old) used entries.now }
 {
-    let code = test_room(res.len());
-    if code != CARRIED_OUT {
-        return code;
+    if let Err(unserved) = test_room(res.len()) {
+        return unserved.code();
     }
-    let appended = append(journal, used, entries);
-    put_result(res, appended.no, appended.used);
-    code
+    match append(journal, used, entries) {
+        Ok(after) => put_result(res, DONE, after),
+        Err(why) => put_result(res, why.code(), used),
+    }
+    CARRIED_OUT
 }
 
 // Judges a journal, and says what a recorder has to know of it.
@@ -89,15 +122,14 @@ pub extern "C" fn meter_known(journal: &[u8], known: &mut [u64], res: &mut [u64]
     ensures { returned result (known_lent known.new res.new)
         ≡ serve_known (known_lent known.old res.old) journal.now }
 {
-    let code = test_known(known.len(), res.len());
-    if code != CARRIED_OUT {
-        return code;
+    if let Err(unserved) = test_known(known.len(), res.len()) {
+        return unserved.code();
     }
     if !valid(journal) {
         put_result(res, BAD_JOURNAL, 0);
-        return code;
+        return CARRIED_OUT;
     }
     put_known(known, known_of(journal));
     put_result(res, DONE, journal.len());
-    code
+    CARRIED_OUT
 }

@@ -1,3 +1,2 @@
--- What the proofs use, and callers.
+-- What callers use.
 pub mod BarredLaws
-pub mod BookLaws

@@ -1,63 +1,47 @@
 ghost use Rattle.std.specs.Prelude.{◌≡◌, length};
-ghost use Rattle.journal.specs.Record.{book, sealed, flushed, flush, too_long};
-ghost use Rattle.recording.specs.Barred.{Sealable};
+ghost use Rattle.journal.specs.Record.{book_in, SameBook, sealed, flushed, flush, too_long};
+ghost use Rattle.recording.specs.Barred.{no_of, Sealable};
 
 use crate::before::too_long;
 use journal::entry::{ENTRY_BYTES, SEGMENT, TRAILER_BYTES};
-use journal::known::Known;
-use rules::numbers::{BAD_JOURNAL, DONE, WORD};
+use journal::known::{Book, Known};
+use rules::numbers::WORD;
+use rules::refusal::Refusal;
 use write_entry::entry::put_trailer;
 
 // The waiting entries made a segment.
-pub fn seal(journal: &mut [u8], known: Known) -> Known
-    requires { Sealable known (length journal.old) }
-    ensures { book journal.new result ≡ sealed journal.old known }
+pub fn seal(book: &mut Book<'_>)
+    requires { Sealable book.old.known (length book.old.bytes.now) }
+    ensures same_book { SameBook book.old book.new }
+    ensures sealed { book_in book.new ≡ sealed book.old.bytes.now book.old.known }
 {
-    let at = known.used + ENTRY_BYTES * known.waiting;
-    put_trailer(journal, at, known.segments as u32, known.waiting as u32);
-    Known {
+    let Known {
+        used,
+        segments,
+        open,
+        waiting,
+    } = book.known;
+    let at = used + ENTRY_BYTES * waiting;
+    put_trailer(book.bytes, at, segments as u32, waiting as u32);
+    book.known = Known {
         used: at + TRAILER_BYTES,
-        segments: known.segments + 1,
-        open: known.open,
+        segments: segments + 1,
+        open,
         waiting: 0,
-    }
-}
-
-// A number, and what is known of the journal afterwards.
-#[derive(Drop)]
-pub struct Flushed {
-    pub no: u32,
-    pub known: Known,
+    };
 }
 
 // The waiting entries as a segment, if there are any.
-pub fn flush(journal: &mut [u8], known: Known) -> Flushed
-    ensures { flushed result.no (book journal.new result.known) ≡ flush journal.old known }
+pub fn flush(book: &mut Book<'_>) -> Result<(), Refusal>
+    ensures same_book { SameBook book.old book.new }
+    ensures flushed { flushed (no_of result) (book_in book.new) ≡ flush book.old.bytes.now book.old.known }
 {
-    if known.waiting == 0 {
-        return Flushed { no: DONE, known };
+    if book.known.waiting == 0 {
+        return Ok(());
     }
-    if known.waiting > SEGMENT {
-        return Flushed {
-            no: BAD_JOURNAL,
-            known,
-        };
+    if book.known.waiting > SEGMENT || book.known.segments >= WORD || too_long(0, book) {
+        return Err(Refusal::BadJournal);
     }
-    if known.segments >= WORD {
-        return Flushed {
-            no: BAD_JOURNAL,
-            known,
-        };
-    }
-    if too_long(0, journal.len(), known) {
-        return Flushed {
-            no: BAD_JOURNAL,
-            known,
-        };
-    }
-    let after = seal(journal, known);
-    Flushed {
-        no: DONE,
-        known: after,
-    }
+    seal(book);
+    Ok(())
 }

@@ -4,9 +4,11 @@ ghost use Rattle.runs.specs.Served.{host_lent};
 ghost use Rattle.host.specs.Host.{hosted};
 ghost use Rattle.replayer.specs.Replaying.{serve_replay};
 
-use admit::tests::CARRIED_OUT;
+use admit::tests::{CARRIED_OUT, NO_STATE};
+use layout::state::LentState;
 use replaying::replay::replay;
 use results::results::{put_result, test_result};
+use rules::table::Lent;
 
 // Replays a journal, which is judged whole before its first entry.
 #[unsafe(no_mangle)]
@@ -24,11 +26,23 @@ pub extern "C" fn meter_replay(
         let after = host_lent numbers.new serials.new parents.new crowns.new amounts.new log.new res.new in
         hosted result after ≡ serve_replay h journal.now }
 {
-    let code = test_result(numbers.len(), serials.len(), res.len());
-    if code != CARRIED_OUT {
-        return code;
+    if let Err(unserved) = test_result(numbers.len(), serials.len(), res.len()) {
+        return unserved.code();
     }
-    let ended = replay(numbers, serials, parents, crowns, amounts, log, journal);
+    let Some(numbers) = numbers.as_mut_array() else {
+        return NO_STATE;
+    };
+    let Some(serials) = serials.as_mut_array() else {
+        return NO_STATE;
+    };
+    let mut state = LentState { numbers, serials };
+    let mut lent = Lent {
+        parents,
+        crowns,
+        amounts,
+        log,
+    };
+    let ended = replay(&mut state, &mut lent, journal);
     put_result(res, ended.no, ended.entry);
-    code
+    CARRIED_OUT
 }

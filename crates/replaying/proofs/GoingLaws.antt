@@ -2,9 +2,9 @@
 use Rattle.std.specs.Prelude.{◌≡◌, ◌||◌, ◌∷◌, ◌+◌, ◌≤◌, ◌<◌}
 use Rattle.kit.specs.Names.{refl, sym, ap, ◌∙◌, subst, Bool, true, false, true≢false, List, ℕ, suc, length, arith}
 use Rattle.kit.specs.Names.{eqb, eq-eqb, ne_eqb, le_refl}
-use Rattle.rules.specs.Rules.{Answer, Head, State, BAD-JOURNAL, DONE, Rows, Log, Table, table, head_of, Outcome, outcome, sizes_of, stray, bad, bad_table, step}
+use Rattle.rules.specs.Rules.{Answer, Head, State, BAD-JOURNAL, DONE, Table, head_of, Outcome, outcome, stray, bad_table, step}
 use Rattle.bad_state.proofs.GoodLaws.{bad_after}
-use Rattle.layout.specs.State.{NUMBERS, Sized, head_in, state_by, state_of, headed}
+use Rattle.layout.specs.State.{NUMBERS, state_by, state_of, headed}
 use Rattle.layout.proofs.LayoutLaws.{headed_state}
 use Rattle.journal.specs.declared.entry.Entry.{Entry}
 use Rattle.journal.specs.declared.entry.Entry.TheVariants.{EntryNew, EntryPost, EntryJoin, EntrySnapshot, EntryRollback, EntryCommit, NoEntry}
@@ -17,30 +17,6 @@ use Rattle.journal.proofs.ReadLaws.{both, journal_chain}
 use Rattle.journal.proofs.ForwardLaws.{journal_onward, NextEntry, at_entry, at_trailer, at_end, at_least_trailer}
 use Rattle.entries.specs.Most.{is_entry}
 use Rattle.replaying.specs.Ended.{replayed_by}
-
--- ---- all that is lent
-
-pub record Lent : Type 0 where
-  pub numbers : List ℕ
-  pub serials : List ℕ
-  pub rows : Rows
-  pub log : Log
-
-abbrev pub lent_of : List ℕ → List ℕ → List ℕ → List ℕ → List ℕ → List ℕ → Lent
-lent_of ns ss p c a l = record { numbers = ns; serials = ss; rows = record { parents = p; crowns = c; amounts = a }; log = l }
-
--- No lent list changes its length.
-pub record SameLengths (h₀ h : Lent) : Type 0 where
-  pub numbers : length h.numbers ≡ length h₀.numbers
-  pub serials : length h.serials ≡ length h₀.serials
-  pub parents : length h.rows.parents ≡ length h₀.rows.parents
-  pub crowns : length h.rows.crowns ≡ length h₀.rows.crowns
-  pub amounts : length h.rows.amounts ≡ length h₀.rows.amounts
-  pub log : length h.log ≡ length h₀.log
-
--- The table of a head at hand.
-abbrev pub table_by : Head → Lent → Table
-table_by hd h = table h.rows h.log (state_by hd h.numbers h.serials)
 
 -- ---- the entries that are left, from a place of the bytes on
 
@@ -129,37 +105,29 @@ module _ (first : Replayed) (bs : Bytes) (at place : ℕ) (t : Table) (g : Going
   unfolding replay_from
   going_ends i = ap (replay_from place t) (sym (at_end bs g.onward i)) ∙ g.same
 
--- ---- with the head by value, and whether the table is bad known
+-- ---- and whether the table is bad is known
 
-pub record Running (h₀ : Lent) (first : Replayed) (bs : Bytes) (hd : Head) (b : Bool) (h : Lent) (at place : ℕ) : Type 0 where
-  pub going : Going first bs at place (table_by hd h)
-  pub sized : Sized h.numbers h.serials
-  pub is_bad : b ≡ bad (sizes_of h.rows h.log) hd
-  pub lengths : SameLengths h₀ h
+pub record Running (first : Replayed) (bs : Bytes) (b : Bool) (t : Table) (at place : ℕ) : Type 0 where
+  pub going : Going first bs at place t
+  pub is_bad : b ≡ bad_table t
 
-pub running_starts : (h : Lent) (bs : Bytes) (hd : Head) (b : Bool) → Sized h.numbers h.serials → valid bs ≡ true
-    → b ≡ bad (sizes_of h.rows h.log) hd → Running h (replay_bytes bs (table_by hd h)) bs hd b h 0 0
-running_starts h bs hd b z v q =
-    record { going = going_of bs (table_by hd h) (journal_of bs) refl v; sized = z; is_bad = q; lengths = omega arith }
+pub running_starts : (bs : Bytes) (t : Table) (b : Bool) → valid bs ≡ true → b ≡ bad_table t → Running (replay_bytes bs t) bs b t 0 0
+running_starts bs t b v q = record { going = going_of bs t (journal_of bs) refl v; is_bad = q }
 
-module _ (h₀ : Lent) (first : Replayed) (bs : Bytes) (hd : Head) (b : Bool) (h : Lent) (at place : ℕ)
-    (r : Running h₀ first bs hd b h at place) (i : at < length bs) where
-  pub running_past : ENTRY-BYTES ≤ little_at 4 bs at → Running h₀ first bs hd b h (at + TRAILER-BYTES) place
-  running_past k =
-      record { going = going_past first bs at place (table_by hd h) r.going i k; sized = r.sized; is_bad = r.is_bad; lengths = r.lengths }
+module _ (first : Replayed) (bs : Bytes) (b : Bool) (t : Table) (at place : ℕ) (r : Running first bs b t at place) (i : at < length bs) where
+  pub running_past : ENTRY-BYTES ≤ little_at 4 bs at → Running first bs b t (at + TRAILER-BYTES) place
+  running_past k = record { going = going_past first bs at place t r.going i k; is_bad = r.is_bad }
 
-  pub running_on : (k : little_at 4 bs at < ENTRY-BYTES) (h' : Lent) (a : Answer) (hd' : Head) (b' : Bool)
-      → outcome a (table_by hd' h') ≡ step (table_by hd h) (call_for (table_by hd h).state (read_entry bs at)) → a.no ≡ DONE → SameLengths h h'
-      → b' ≡ (b || stray hd') → Running h₀ first bs hd' b' h' (at + ENTRY-BYTES) (place + 1)
-  running_on k h' a hd' b' q d m s =
-      let c = call_for (table_by hd h).state (read_entry bs at) in
-      let u : table_by hd' h' ≡ (step (table_by hd h) c).table = ap (λ (x : Outcome). x.table) q in
+  pub running_on : (k : little_at 4 bs at < ENTRY-BYTES) (t' : Table) (a : Answer) (b' : Bool)
+      → outcome a t' ≡ step t (call_for t.state (read_entry bs at)) → a.no ≡ DONE → b' ≡ (b || stray (head_of t'.state))
+      → Running first bs b' t' (at + ENTRY-BYTES) (place + 1)
+  running_on k t' a b' q d s =
+      let c = call_for t.state (read_entry bs at) in
+      let u : t' ≡ (step t c).table = ap (λ (x : Outcome). x.table) q in
       let e : place + 1 ≡ suc place = omega arith in
       rw e record {
-        going = going_on first bs at place (table_by hd h) r.going i k (table_by hd' h') a q d;
-        sized = omega (arith, m, r.sized);
-        is_bad = s ∙ subst (λ (x : Table). (b || stray (head_of x.state)) ≡ bad_table x) (sym u) (bad_after (table_by hd h) c b r.is_bad);
-        lengths = omega (arith, m, r.lengths);
+        going = going_on first bs at place t r.going i k t' a q d;
+        is_bad = s ∙ subst (λ (x : Table). (b || stray (head_of x.state)) ≡ bad_table x) (sym u) (bad_after t c b r.is_bad);
       }
 
 -- ---- what is no journal, and the head written at the end
@@ -171,11 +139,10 @@ not_one (journal n es) t e = absurd (true≢false e)
 pub no_replay : (bs : Bytes) (t : Table) → valid bs ≡ false → replayed_by BAD-JOURNAL 0 t ≡ replay_bytes bs t
 no_replay bs t e = not_one (journal_of bs) t e
 
-pub head_written : (bs : Bytes) (h h' : Lent) (ns : List ℕ) (n place : ℕ) (begun hd : Head) → begun ≡ head_in h.numbers
-    → length h'.numbers ≡ NUMBERS → ns ≡ headed h'.numbers hd → replayed_by n place (table_by hd h') ≡ replay_bytes bs (table_by begun h)
-    → replayed_by n place (table h'.rows h'.log (state_of ns h'.serials))
-    ≡ replay_bytes bs (table h.rows h.log (state_of h.numbers h.serials))
-head_written bs h h' ns n place begun hd b z w q =
-    ap {B = Replayed} (λ (s : State). replayed_by n place (table h'.rows h'.log s))
-    (ap {B = State} (λ (l : List ℕ). state_of l h'.serials) w ∙ headed_state h'.numbers h'.serials hd z)
-    ∙ q ∙ ap {B = Replayed} (λ (x : Head). replay_bytes bs (table_by x h)) b
+pub head_written : (bs : Bytes) (first : Table) (t' : State → Table) (ns ns' ss' : List ℕ) (n place : ℕ) (hd : Head)
+    → length ns' ≡ NUMBERS → ns ≡ headed ns' hd → replayed_by n place (t' (state_by hd ns' ss')) ≡ replay_bytes bs first
+    → replayed_by n place (t' (state_of ns ss')) ≡ replay_bytes bs first
+head_written bs first t' ns ns' ss' n place hd z w q =
+    ap {B = Replayed} (λ (s : State). replayed_by n place (t' s))
+    (ap {B = State} (λ (l : List ℕ). state_of l ss') w ∙ headed_state ns' ss' hd z)
+    ∙ q

@@ -1,24 +1,25 @@
 // Document 02, Q-1: "Replay stops at the first entry not answered DONE and names it."
 ghost use Rattle.std.specs.Prelude.{◌≡◌, true};
-ghost use Rattle.rules.specs.Rules.{rows_lent, table_lent, sizes_of, bad};
-ghost use Rattle.layout.specs.State.{Sized, state_by, state_of};
+ghost use Rattle.rules.specs.Rules.{table_in, SameParts};
+ghost use Rattle.layout.specs.Lent.{SameState, state_in, state_under};
 ghost use Rattle.journal.specs.Journal.{valid};
 ghost use Rattle.journal.specs.Replay.{replay_bytes};
 ghost use Rattle.replaying.specs.Ended.{replayed_by};
 
-use bad_state::bad::{bad_after, bad_state};
+use bad_state::bad::{bad_after, bad_lent};
 use entry_read::read::entry_at;
 use journal::entry::{ENTRY_BYTES, TRAILER_BYTES};
-use layout::state::head_of;
+use layout::state::LentState;
 use little_endian::read::u32_at;
 use replay_one::one::replay_entry;
 use rules::numbers::{BAD_JOURNAL, DONE};
-use rules::table::Head;
+use rules::table::{Head, Lent};
 use valid::valid::valid;
 use write_state::after::write_head;
 
-// A number, the place of the entry at which replay stopped or how many entries there were, and the head that is left.
-#[derive(Drop)]
+// A number, the place of the entry at which replay stopped or how many entries there were, and the head that is left. The number is the
+// last answer's, and no `Result`: a replay that stops leaves a place and a head as one that doesn't.
+#[derive(Clone, Copy)]
 pub struct Ended {
     pub no: u32,
     pub entry: usize,
@@ -26,26 +27,17 @@ pub struct Ended {
 }
 
 // A valid journal, entry by entry from the front, the head at hand: an entry begins with its kind, and a trailer, which is passed over,
-// with its distance, which is at least an entry's length.
-fn replay_valid(
-    numbers: &mut [u32],
-    serials: &mut [u64],
-    parents: &mut [u32],
-    crowns: &mut [u32],
-    amounts: &mut [u64],
-    log: &mut [u32],
-    bytes: &[u8],
-    begun: Head,
-) -> Ended
-    requires sized { Sized numbers.old serials.old }
+// with its distance, which is at least an entry's length. What stands at a place says how far it is to the next one, so the place is no
+// `for`'s.
+fn replay_valid(state: &mut LentState<'_>, lent: &mut Lent<'_>, bytes: &[u8], begun: Head) -> Ended
     requires bytes_value { valid bytes.now ≡ true }
-    ensures { let t = table_lent parents.old crowns.old amounts.old log.old in
-        let after = table_lent parents.new crowns.new amounts.new log.new in
-        replayed_by result.no result.entry (after (state_by result.head numbers.new serials.new))
-        ≡ replay_bytes bytes.now (t (state_by begun numbers.old serials.old)) }
+    ensures same_state { SameState state.old state.new }
+    ensures same_parts { SameParts lent.old lent.new }
+    ensures value { replayed_by result.no result.entry (table_in lent.new (state_under result.head state.new))
+        ≡ replay_bytes bytes.now (table_in lent.old (state_under begun state.old)) }
 {
     let mut head = begun;
-    let mut is_bad = bad_state(head, parents.len(), crowns.len(), amounts.len(), log.len());
+    let mut is_bad = bad_lent(head, lent);
     let mut at = 0;
     let mut entry = 0;
     while at < bytes.len() {
@@ -53,22 +45,11 @@ fn replay_valid(
             at += TRAILER_BYTES;
             continue;
         }
-        let settled = replay_entry(
-            numbers,
-            serials,
-            parents,
-            crowns,
-            amounts,
-            log,
-            head,
-            is_bad,
-            entry_at(bytes, at),
-        );
-        let answer = settled.answer;
+        let settled = replay_entry(state, lent, head, is_bad, entry_at(bytes, at));
         head = settled.head;
-        if answer.no != DONE {
+        if settled.answer.no != DONE {
             return Ended {
-                no: answer.no,
+                no: settled.answer.no,
                 entry,
                 head,
             };
@@ -85,22 +66,13 @@ fn replay_valid(
 }
 
 // Any bytes, on any table whose state is lent as numbers. What isn't a journal changes nothing.
-pub fn replay(
-    numbers: &mut [u32],
-    serials: &mut [u64],
-    parents: &mut [u32],
-    crowns: &mut [u32],
-    amounts: &mut [u64],
-    log: &mut [u32],
-    bytes: &[u8],
-) -> Ended
-    requires { Sized numbers.old serials.old }
-    ensures { let t = table_lent parents.old crowns.old amounts.old log.old in
-        let after = table_lent parents.new crowns.new amounts.new log.new in
-        replayed_by result.no result.entry (after (state_of numbers.new serials.new))
-        ≡ replay_bytes bytes.now (t (state_of numbers.old serials.old)) }
+pub fn replay(state: &mut LentState<'_>, lent: &mut Lent<'_>, bytes: &[u8]) -> Ended
+    ensures same_state { SameState state.old state.new }
+    ensures same_parts { SameParts lent.old lent.new }
+    ensures value { replayed_by result.no result.entry (table_in lent.new (state_in state.new))
+        ≡ replay_bytes bytes.now (table_in lent.old (state_in state.old)) }
 {
-    let head = head_of(numbers);
+    let head = state.head();
     if !valid(bytes) {
         return Ended {
             no: BAD_JOURNAL,
@@ -108,7 +80,7 @@ pub fn replay(
             head,
         };
     }
-    let ended = replay_valid(numbers, serials, parents, crowns, amounts, log, bytes, head);
-    write_head(numbers, ended.head);
+    let ended = replay_valid(state, lent, bytes, head);
+    write_head(state, ended.head);
     ended
 }

@@ -1,12 +1,12 @@
 -- Laws of reading a journal from its end: each trailer says what the part before it must be. Assumes nothing.
-use Rattle.std.specs.Prelude.{◌≡◌, ◌&&◌, ◌++◌, ◌+◌, ◌*◌, ◌-◌, ◌≤◌, ◌<◌}
+use Rattle.std.specs.Prelude.{◌≡◌, ◌&&◌, ◌++◌, ◌+◌, ◌-◌, ◌≤◌, ◌<◌}
 use Rattle.kit.specs.Names.{refl, sym, ap, ◌∙◌, Bool, true, false, cond, List, [], ℕ, suc}
 use Rattle.kit.specs.Names.{length, eqb, leb, arith, ℕ_discrete, dec_lt, le-ltb, lt-ltb, eq-eqb, ne_eqb, le-leb, lt-leb, eqb-true}
 use mathlib.Core.Bool.{and-false, and_assoc}
 use native.Mathlib.Nat.{zero-add}
 use Rattle.rules.specs.Rules.{MAX-OPEN}
 use Rattle.journal.specs.declared.entry.Entry.{Entry}
-use Rattle.journal.specs.Numbers.{ENTRY-BYTES, TRAILER-BYTES, SEGMENT}
+use Rattle.journal.specs.Numbers.{TRAILER-BYTES}
 use Rattle.journal.specs.Entry.{Bytes, little_at, entries_at}
 use Rattle.journal.specs.Journal.{trailer_at, points, Journal, no_journal, journal, followed, read_to, orderly, open_in, tested, is_journal, journal_of}
 use Rattle.journal.specs.Journal.{valid}
@@ -14,37 +14,22 @@ use Rattle.journal.proofs.ReadLaws.{both, tested_orderly, orderly_more, open_mor
 use Rattle.valid.specs.declared.place.Place.{Place}
 use Rattle.valid.specs.declared.window.Window.{Window}
 use Rattle.valid.specs.Window.{admits, narrowed}
-use Rattle.valid.specs.Place.{ends_in, between, back, judged, Placed, Nowhere, Nearer, segments_told, followed_by}
+use Rattle.valid.specs.Place.{ends_in, between, back, judged, Placed, Nearer, segments_told, followed_by}
 use Rattle.valid.proofs.WindowLaws.{open_in_lem, narrowed_admits}
-
--- ---- a trailer
-
-module _ (distance count at : ℕ) where
-  pub too_few : count < 1 → false ≡ points (back distance count) at
-  too_few h = rw (lt-leb 1 count h, and-false (eqb distance (24 * count)))
-
-  pub too_many : SEGMENT < count → false ≡ points (back distance count) at
-  too_many h = rw (lt-leb count SEGMENT h, and-false (eqb distance (24 * count) && leb 1 count))
-
-  pub not_whole : (distance ≡ ENTRY-BYTES * count → ⊥) → false ≡ points (back distance count) at
-  not_whole n = rw (ne_eqb distance (24 * count) n)
-
-  pub inside : 1 ≤ count → count ≤ SEGMENT → distance ≡ ENTRY-BYTES * count → leb distance at ≡ points (back distance count) at
-  inside some few whole = rw (le-leb 1 count some, le-leb count SEGMENT few, eq-eqb distance (24 * count) whole)
 
 -- ---- nothing before the first segment
 
-module _ (segments least rise : ℕ) where
-  pub segments_left : (segments ≡ 0 → ⊥) → false ≡ ends_in segments (between least rise) (journal 0 [])
+module _ (segments : ℕ) (w : Window) where
+  pub segments_left : (segments ≡ 0 → ⊥) → false ≡ ends_in segments w (journal 0 [])
   segments_left n = rw (ne_eqb 0 segments (λ e. n (sym e)))
 
-  pub some_open : 0 < least → false ≡ ends_in segments (between least rise) (journal 0 [])
+  pub some_open : (w.least ≡ 0 → ⊥) → false ≡ ends_in segments w (journal 0 [])
   unfolding orderly open_in
-  some_open h = rw (lt-leb least 0 h, and-false (eqb 0 segments))
+  some_open h = rw (lt-leb w.least 0 (omega arith), and-false (eqb 0 segments))
 
-  pub none_open : segments ≡ 0 → least ≤ 0 → leb rise MAX-OPEN ≡ ends_in segments (between least rise) (journal 0 [])
+  pub none_open : segments ≡ 0 → w.least ≡ 0 → leb w.rise MAX-OPEN ≡ ends_in segments w (journal 0 [])
   unfolding orderly open_in
-  none_open e h = rw (eq-eqb 0 segments (sym e), le-leb least 0 h, zero-add rise)
+  none_open e h = rw (eq-eqb 0 segments (sym e), le-leb w.least 0 (omega arith), zero-add w.rise)
 
 -- ---- a segment after what comes before
 
@@ -160,13 +145,6 @@ module _ (bs : Bytes) (w : Window) where
         | no h ↦ rw (le-ltb (length bs) 12 (omega arith)) (all_long (omega arith))
       ]
 
-pub told_short : (bs : Bytes) → length bs < TRAILER-BYTES → 0 ≡ segments_told bs
-told_short bs h = rw (lt-ltb (length bs) 12 h)
-
-pub told_long : (bs : Bytes) (number : ℕ) → TRAILER-BYTES ≤ length bs → number ≡ little_at 4 bs (length bs - TRAILER-BYTES + 8)
-    → number + 1 ≡ segments_told bs
-told_long bs number h e = rw (le-ltb (length bs) 12 h, e)
-
 -- Any number up to 32 may be open where nothing follows.
 any_open : (n : ℕ) → n ≤ MAX-OPEN → admits (between 0 0) n ≡ true
 any_open n h = rw (le-leb 0 n (omega arith), le-leb (n + 0) MAX-OPEN (omega arith))
@@ -185,44 +163,34 @@ valid_alone bs = nothing_follows (read_to (length bs) bs (length bs))
 
 -- ---- places
 
--- What is no journal is as good as no bytes that are one segment.
-pub nearer_nowhere : (bs : Bytes) (p r : Place) → Nowhere r → 0 < p.end → false ≡ judged bs p → Nearer bs p r
-nearer_nowhere bs p r n h e =
-    let here : judged bs r ≡ false = rw (n.empty, n.one, read_nothing bs) in
-    record {
-      placed = record { within = omega (arith, n); window = record { low = omega (arith, n); high = omega (arith, n) } };
-      falls = omega
-          (arith, n);
-      same = here ∙ e;
-    }
-
--- A run of segments, of which so many are left.
-pub record Running (bs : Bytes) (p now : Place) (left : ℕ) : Type 0 where
+-- A run of so many segments.
+pub record Running (bs : Bytes) (p now : Place) (many : ℕ) : Type 0 where
   pub placed : Placed bs now
   pub some : 0 < p.end
   pub onward : now.end ≤ p.end
-  pub most : left ≤ 4096
-  pub begun : left < 4096 → now.end < p.end
+  pub begun : 0 < many → now.end < p.end
   pub same : judged bs now ≡ judged bs p
 
 module _ {bs : Bytes} {p : Place} where
-  pub run_begins : Placed bs p → 0 < p.end → Running bs p p 4096
-  run_begins q h = record { placed = q; some = h; onward = omega arith; most = omega arith; begun = λ k. absurd (omega arith); same = refl }
+  pub run_begins : Placed bs p → 0 < p.end → Running bs p p 0
+  run_begins q h = record { placed = q; some = h; onward = omega arith; begun = λ k. absurd (omega arith); same = refl }
 
-  module _ {now : Place} (left : ℕ) (g : Running bs p now left) where
-    pub run_on : {next : Place} → 0 < left → Nearer bs now next → Running bs p next (left - 1)
-    run_on h r =
+  module _ {now : Place} (many : ℕ) (g : Running bs p now many) where
+    pub run_on : {next : Place} → Nearer bs now next → Running bs p next (many + 1)
+    run_on r =
         record {
           placed = r.placed;
           some = g.some;
           onward = omega (arith, r.falls, g.onward);
-          most = omega (arith, g.most);
           begun = λ k. omega (arith, r.falls, g.onward);
           same = r.same ∙ g.same;
         }
 
-    pub run_ends : left ≤ 0 → Nearer bs p now
-    run_ends h = record { placed = g.placed; falls = g.begun (omega arith); same = g.same }
+    pub run_fails : false ≡ judged bs now → false ≡ judged bs p
+    run_fails e = e ∙ g.same
+
+    pub run_ends : 0 < many → Nearer bs p now
+    run_ends h = record { placed = g.placed; falls = g.begun h; same = g.same }
 
     pub run_stops : now.end ≡ 0 → Nearer bs p now
     run_stops e = record { placed = g.placed; falls = omega (arith, g.some, e); same = g.same }

@@ -184,8 +184,3 @@ narrow_entry bs at w h =
 
 pub narrow_none : (bs : Bytes) (at : ℕ) (w : Window) → is_entry (read_entry bs at) ≡ false → record { least = 0; rise = 33 } ≡ narrow (read_entry bs at) w
 narrow_none bs at w h = ap (λ e. narrow e w) (sym (none_there (read_entry bs at) h))
-
--- Both numbers moved.
-pub both_moved : {opens closes least rise : ℕ} (kind : ℕ) (w : Window) → opens ≡ opens_of kind → closes ≡ closes_of kind → least ≡ w.least - opens
-    → rise ≡ w.rise - closes → record { least = least + closes; rise = rise + opens } ≡ moved (opens_of kind) (closes_of kind) w
-both_moved kind w o c l t = rw (l, t, o, c)

@@ -1,5 +1,5 @@
 -- What the part of a journal up to an end must be, for what follows it.
-use Rattle.std.specs.Prelude.{◌≡◌, ◌&&◌, ◌+◌, ◌-◌, ◌≤◌, ◌<◌}
+use Rattle.std.specs.Prelude.{◌≡◌, ◌&&◌, ◌+◌, ◌-◌, ◌≤◌, ◌<◌, Option, Some, None}
 use Rattle.kit.specs.Names.{Bool, false, cond, ℕ, length, eqb, ltb}
 use Rattle.journal.specs.Numbers.{TRAILER-BYTES}
 use Rattle.journal.specs.Entry.{Bytes, little_at}
@@ -18,24 +18,22 @@ between least rise = record { least = least; rise = rise }
 
 -- Whether what is still to be read at a place is as it must be.
 abbrev pub judged : Bytes → Place → Bool
-judged bs p = ends_in p.segments (between p.least p.rise) (read_to p.end bs p.end)
+judged bs p = ends_in p.segments p.window (read_to p.end bs p.end)
 
 pub record Placed (bs : Bytes) (p : Place) : Type 0 where
   pub within : p.end ≤ length bs
-  pub window : Small (between p.least p.rise) (length bs - p.end)
-
--- No bytes at all, which are not one segment.
-pub record Nowhere (r : Place) : Type 0 where
-  pub empty : r.end ≡ 0
-  pub one : r.segments ≡ 1
-  pub low : r.least ≡ 0
-  pub high : r.rise ≡ 0
+  pub window : Small p.window (length bs - p.end)
 
 -- From one place to another that is nearer to the front, with the same answer.
 pub record Nearer (bs : Bytes) (p r : Place) : Type 0 where
   pub placed : Placed bs r
   pub falls : r.end < p.end
   pub same : judged bs r ≡ judged bs p
+
+-- Such a place, or none where the bytes are not as they must be.
+abbrev pub Before : Bytes → Place → Option Place → Type 0
+Before bs p None = false ≡ judged bs p
+Before bs p (Some r) = Nearer bs p r
 
 -- ---- all bytes
 

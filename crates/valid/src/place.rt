@@ -1,99 +1,67 @@
 // A journal is read from its end, one trailer after the other.
 ghost use Rattle.std.specs.Prelude.{◌≡◌, ◌<◌};
 ghost use Rattle.journal.specs.Journal.{points};
-ghost use Rattle.valid.specs.Place.{back, Placed, Nowhere, Nearer};
+ghost use Rattle.valid.specs.Place.{back, Placed, Before};
 
-use crate::window::{Window, narrow_all};
+use crate::window::Window;
 use journal::entry::{ENTRY_BYTES, SEGMENT, TRAILER_BYTES};
 use little_endian::read::u32_at;
 
-// What is still to be read: the bytes up to an end, which must be so many segments, after which at least `least` snapshots are open, and
-// `rise` less than may be.
-#[derive(Drop)]
+// What is still to be read: the bytes up to an end, which must be so many segments, after which what the window says may follow.
+#[derive(Clone, Copy)]
 pub struct Place {
     pub end: usize,
     pub segments: usize,
-    pub least: u64,
-    pub rise: u64,
-}
-
-// No bytes at all, which are not one segment.
-fn nowhere() -> Place
-    ensures { Nowhere result }
-{
-    Place {
-        end: 0,
-        segments: 1,
-        least: 0,
-        rise: 0,
-    }
+    pub window: Window,
 }
 
 // Whether a trailer at a place points back to the first byte of 1 to 2048 entries.
 fn points_back(distance: usize, count: usize, at: usize) -> bool
     ensures { result ≡ points (back distance count) at }
 {
-    if count < 1 {
-        return false;
-    }
-    if count > SEGMENT {
-        return false;
-    }
-    if distance != ENTRY_BYTES * count {
-        return false;
-    }
-    distance <= at
+    (1..=SEGMENT).contains(&count) && distance == ENTRY_BYTES * count && distance <= at
 }
 
-// Before the last segment.
-fn before_last(bytes: &[u8], p: Place) -> Place
-    requires { Placed bytes.now p × (0 < p.end) }
-    ensures { Nearer bytes.now p result }
+// Before the last segment, if one stands there.
+fn before_last(bytes: &[u8], place: Place) -> Option<Place>
+    requires { Placed bytes.now place × (0 < place.end) }
+    ensures { Before bytes.now place result }
 {
-    let end = p.end;
-    if end < TRAILER_BYTES {
-        return nowhere();
+    if place.end < TRAILER_BYTES {
+        return None;
     }
-    let at = end - TRAILER_BYTES;
+    let at = place.end - TRAILER_BYTES;
     let distance = u32_at(bytes, at) as usize;
     let count = u32_at(bytes, at + 4) as usize;
     if !points_back(distance, count, at) {
-        return nowhere();
+        return None;
     }
     let number = u32_at(bytes, at + 8) as usize;
-    if number + 1 != p.segments {
-        return nowhere();
+    if number + 1 != place.segments {
+        return None;
     }
     let start = at - distance;
-    let w = Window {
-        least: p.least,
-        rise: p.rise,
-    };
-    let before = narrow_all(bytes, start, count, w);
-    Place {
+    Some(Place {
         end: start,
         segments: number,
-        least: before.least,
-        rise: before.rise,
-    }
+        window: place.window.narrow_all(bytes, start, count),
+    })
 }
 
 // How many segments are read in one go.
 const RUN: usize = 4096;
 
 // Before the last segments, as many as are read in one go.
-pub fn before_run(bytes: &[u8], p: Place) -> Place
-    requires { Placed bytes.now p × (0 < p.end) }
-    ensures { Nearer bytes.now p result }
+pub fn before_run(bytes: &[u8], place: Place) -> Option<Place>
+    requires { Placed bytes.now place × (0 < place.end) }
+    ensures { Before bytes.now place result }
 {
-    let mut now = p;
-    let mut left = RUN;
-    while left > 0 {
+    let mut now = place;
+    for _ in 0..RUN {
         if now.end == 0 {
-            return now;
+            break;
         }
-        now = before_last(bytes, now);
-        left -= 1;
+        now = before_last(bytes, now)?;
     }
-    now
+    Some(now)
 }

@@ -1,6 +1,6 @@
 // How many snapshots may be open before an entry. This is worked out from the journal's end: what follows an entry says how many may be open
 // after it, and so before it.
-ghost use Rattle.std.specs.Prelude.{◌≡◌, ◌+◌, ◌*◌, ◌-◌, ◌≤◌, ◌<◌, length};
+ghost use Rattle.std.specs.Prelude.{◌≡◌, ◌+◌, ◌*◌, ◌-◌, ◌≤◌, ◌<◌, ◌^◌, length};
 ghost use Rattle.journal.specs.Entry.{read_entry, entries_at};
 ghost use Rattle.valid.specs.Window.{opens_of, closes_of, moved, Small, narrow, narrowed};
 
@@ -9,79 +9,53 @@ use journal::entry::{ENTRY_BYTES, ENTRY_SNAPSHOT};
 use little_endian::read::u32_at;
 
 // What follows closes `least` snapshots that are open before it, and has `rise` more open than those at some place.
-#[derive(Drop)]
+#[derive(Clone, Copy)]
 pub struct Window {
     pub least: u64,
     pub rise: u64,
 }
 
-// More than are ever open.
-const NEVER: u64 = 33;
+// Where nothing follows.
+pub const NOTHING: Window = Window { least: 0, rise: 0 };
 
-// Kinds above a snapshot's close one.
-fn opened(kind: u32) -> u64
-    ensures { (result ≡ opens_of kind) × (result ≤ 1) }
-{
-    if kind == ENTRY_SNAPSHOT {
-        return 1;
-    }
-    0
-}
+// Before what is no entry: more would follow than are ever open.
+const NEVER: Window = Window { least: 0, rise: 33 };
 
-fn closed(kind: u32) -> u64
-    ensures { (result ≡ closes_of kind) × (result ≤ 1) }
-{
-    if kind > ENTRY_SNAPSHOT {
-        return 1;
+impl Window {
+    // Before an entry of this kind. Kinds above a snapshot's close one.
+    fn moved(self, kind: u32) -> Window
+        requires { (self.least < 2 ^ 64 - 1) × (self.rise < 2 ^ 64 - 1) }
+        ensures { result ≡ moved (opens_of kind) (closes_of kind) self }
+    {
+        let opens = u64::from(kind == ENTRY_SNAPSHOT);
+        let closes = u64::from(kind > ENTRY_SNAPSHOT);
+        Window {
+            least: self.least.saturating_sub(opens) + closes,
+            rise: self.rise.saturating_sub(closes) + opens,
+        }
     }
-    0
-}
 
-fn less(n: u64, by: u64) -> u64
-    ensures { result ≡ n - by }
-{
-    if n < by {
-        return 0;
+    // Before the entry at a place.
+    fn narrow_at(self, bytes: &[u8], at: usize) -> Window
+        requires { (at + 24 ≤ length bytes.now) × Small self (length bytes.now - (at + 24)) }
+        ensures { result ≡ narrow (read_entry bytes.now at) self }
+    {
+        if is_entry_at(bytes, at) {
+            self.moved(u32_at(bytes, at))
+        } else {
+            NEVER
+        }
     }
-    n - by
-}
 
-fn moved(w: Window, kind: u32) -> Window
-    requires { (w.least < 18446744073709551615) × (w.rise < 18446744073709551615) }
-    ensures { result ≡ moved (opens_of kind) (closes_of kind) w }
-{
-    let opens = opened(kind);
-    let closes = closed(kind);
-    Window {
-        least: less(w.least, opens) + closes,
-        rise: less(w.rise, closes) + opens,
+    // Before so many entries from a place on, the last one first.
+    pub fn narrow_all(self, bytes: &[u8], start: usize, count: usize) -> Window
+        requires { (start + 24 * count ≤ length bytes.now) × Small self (length bytes.now - (start + 24 * count)) }
+        ensures { result ≡ narrowed (entries_at count bytes.now start) self }
+    {
+        let mut now = self;
+        for entry in (0..count).rev() {
+            now = now.narrow_at(bytes, start + entry * ENTRY_BYTES);
+        }
+        now
     }
-}
-
-// Before the entry at a place. Before what is none there is no such number.
-fn narrow_at(bytes: &[u8], at: usize, w: Window) -> Window
-    requires { (at + 24 ≤ length bytes.now) × Small w (length bytes.now - (at + 24)) }
-    ensures { result ≡ narrow (read_entry bytes.now at) w }
-{
-    if !is_entry_at(bytes, at) {
-        return Window {
-            least: 0,
-            rise: NEVER,
-        };
-    }
-    moved(w, u32_at(bytes, at))
-}
-
-// Before so many entries from a place on, the last one first.
-pub fn narrow_all(bytes: &[u8], start: usize, count: usize, w: Window) -> Window
-    requires { (start + 24 * count ≤ length bytes.now) × Small w (length bytes.now - (start + 24 * count)) }
-    ensures { result ≡ narrowed (entries_at count bytes.now start) w }
-{
-    let mut left = count;
-    let mut now = w;
-    while left > 0 {
-        left -= 1;
-        now = narrow_at(bytes, start + left * ENTRY_BYTES, now);
-    }
-    now
 }

@@ -1,10 +1,12 @@
 -- Bytes written one after the other. Assumes nothing.
-use Rattle.std.specs.Prelude.{◌≡◌, ◌∷◌, ◌++◌, ◌+◌, ◌*◌, ◌/◌, ◌%◌, ◌^◌}
-use Rattle.kit.specs.Names.{refl, sym, ap, ◌∙◌, [], ℕ, zero, suc, length, length-append, set, sets, pow-suc}
-use Rattle.kit.specs.Names.{add-mul-mod_self_left, add-mul-div_left, arith}
-use native.Mathlib.Nat.{mul_comm, mul_assoc, mod-add-div}
+use Rattle.std.specs.Prelude.{◌≡◌, ◌∷◌, ◌++◌, ◌+◌, ◌-◌, ◌*◌, ◌/◌, ◌≤◌}
+use Rattle.std.specs.Int.{w32, w64, to_le_bytes}
+use Rattle.std.proofs.lemmas.List.Edits.{sets-eq}
+use Rattle.std.proofs.lemmas.Slice.{put_mid-paste}
+use borrow.Rule.Slice.PartMut.{put_mid}
+use Rattle.kit.specs.Names.{refl, sym, ap, ◌∙◌, [], ℕ, suc, length, length-append, take, drop, take_all, le_refl, set, sets}
+use Rattle.kit.specs.Names.{arith}
 use Rattle.journal.specs.Numbers.{ENTRY-BYTES}
-use Rattle.rules.specs.Rules.{WORD}
 use Rattle.journal.specs.Entry.{Bytes, little_endian, fields}
 use Rattle.journal.specs.Journal.{trailer_bytes, trailer_of}
 use Rattle.journal.proofs.ByteLaws.{length_number}
@@ -17,41 +19,41 @@ sets_append bs (x ∷ xs) ys at to e = sets_append (set bs at x) xs ys (suc at) 
 pub then : {cs ds : Bytes} (bs xs ys : Bytes) (at to : ℕ) → cs ≡ sets bs at xs → to ≡ at + length xs → ds ≡ sets cs to ys → ds ≡ sets bs at (xs ++ ys)
 then bs xs ys at to e here f = f ∙ ap (λ (b : Bytes). sets b to ys) e ∙ sets_append bs xs ys at to here
 
--- Four bytes, as they are stored.
-pub four : (bs : Bytes) (at n : ℕ)
-    → set (set (set (set bs at (n % 256)) (at + 1) (n / 256 % 256)) (at + 2) (n / 256 / 256 % 256)) (at + 3) (n / 256 / 256 / 256 % 256)
+-- Bytes copied over a part of a list.
+pub copied : (bs ys xs : Bytes) (at end : ℕ) → ys ≡ xs → end - at ≡ length xs → at + length xs ≤ length bs → put_mid at (end - at) bs ys ≡ sets bs at xs
+copied bs ys xs at end e long fits =
+    put_mid-paste at (end - at) bs ys xs (length xs) e (sym long) refl
+    ∙ ap (λ (l : Bytes). take at bs ++ l ++ drop (at + length xs) bs) (take_all (length xs) xs (le_refl (length xs)))
+    ∙ sym (sets-eq xs bs at fits)
+
+-- The library's bytes of a number are those of the rule.
+four : (n : ℕ) → to_le_bytes w32 n ≡ little_endian 4 n
+unfolding little_endian
+four n =
+    let two : n / 256 / 256 ≡ n / 65536 = omega arith in
+    let three : n / 256 / 256 / 256 ≡ n / 16777216 = omega arith in
+    rw (three, two)
+
+eight : (n : ℕ) → to_le_bytes w64 n ≡ little_endian 8 n
+unfolding little_endian
+eight n =
+    let two : n / 256 / 256 ≡ n / 65536 = omega arith in
+    let three : n / 256 / 256 / 256 ≡ n / 16777216 = omega arith in
+    let four : n / 256 / 256 / 256 / 256 ≡ n / 4294967296 = omega arith in
+    let five : n / 256 / 256 / 256 / 256 / 256 ≡ n / 1099511627776 = omega arith in
+    let six : n / 256 / 256 / 256 / 256 / 256 / 256 ≡ n / 281474976710656 = omega arith in
+    let seven : n / 256 / 256 / 256 / 256 / 256 / 256 / 256 ≡ n / 72057594037927936 = omega arith in
+    rw (seven, six, five, four, three, two)
+
+pub four_copied : (bs ys : Bytes) (at n : ℕ) → ys ≡ to_le_bytes w32 n → at + 4 ≤ length bs → put_mid at (at + 4 - at) bs ys
     ≡ sets bs at (little_endian 4 n)
-unfolding little_endian
-four bs at n =
-    let one : at + 1 ≡ suc at = omega arith in
-    let two : at + 2 ≡ suc (suc at) = omega arith in
-    let three : at + 3 ≡ suc (suc (suc at)) = omega arith in
-    rw (one, two, three)
+four_copied bs ys at n e fits = copied bs ys (to_le_bytes w32 n) at (at + 4) e (omega arith) fits ∙ ap (sets bs at) (four n)
 
--- A number's lowest bytes are those of what is left of it below their limit.
-low_bytes : (w m q : ℕ) → little_endian w (m + 256 ^ w * q) ≡ little_endian w m
-unfolding little_endian
-low_bytes zero m q = refl
-low_bytes (suc w) m q =
-    let e : 256 ^ suc w * q ≡ 256 * (256 ^ w * q) = rw (pow-suc 256 w, mul_comm (256 ^ w) 256) (mul_assoc 256 (256 ^ w) q) in
-    rw (e, add-mul-mod_self_left m 256 (256 ^ w * q), add-mul-div_left m (256 ^ w * q) {y = 256} (omega arith), low_bytes w (m / 256) q)
-
--- Eight, as twice four.
-pub halves : (n : ℕ) → little_endian 4 (n % WORD) ++ little_endian 4 (n / WORD) ≡ little_endian 8 n
-unfolding little_endian
-halves n =
-    let low : little_endian 4 (n % WORD) ≡ little_endian 4 n = sym (low_bytes 4 (n % WORD) (n / WORD)) ∙ ap (little_endian 4) (mod-add-div n WORD) in
-    let high : n / 4294967296 ≡ n / 256 / 256 / 256 / 256 = omega arith in
-    ap (λ (bs : Bytes). bs ++ little_endian 4 (n / WORD)) low ∙ rw high
+pub eight_copied : (bs ys : Bytes) (at n : ℕ) → ys ≡ to_le_bytes w64 n → at + 8 ≤ length bs → put_mid at (at + 8 - at) bs ys
+    ≡ sets bs at (little_endian 8 n)
+eight_copied bs ys at n e fits = copied bs ys (to_le_bytes w64 n) at (at + 8) e (omega arith) fits ∙ ap (sets bs at) (eight n)
 
 -- ---- numbers one after the other
-
-pub both_halves : (bs : Bytes) {b1 b2 : Bytes} (at n : ℕ) → b1 ≡ sets bs at (little_endian 4 (n % WORD)) → b2 ≡ sets b1 (at + 4)
-    (little_endian 4 (n / WORD))
-    → b2 ≡ sets bs at (little_endian 8 n)
-both_halves bs at n e f =
-    let low = little_endian 4 (n % WORD) in
-    then bs low (little_endian 4 (n / WORD)) at (at + 4) e (rw length_number) f ∙ ap (sets bs at) (halves n)
 
 pub trailer_written : (bs : Bytes) {b1 b2 b3 : Bytes} (at number count : ℕ) → b1 ≡ sets bs at (little_endian 4 (ENTRY-BYTES * count))
     → b2 ≡ sets b1 (at + 4) (little_endian 4 count) → b3 ≡ sets b2 (at + 8) (little_endian 4 number) → b3 ≡ sets bs at

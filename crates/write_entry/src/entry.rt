@@ -11,7 +11,7 @@ use journal::entry::{
 };
 
 // "kind .., key a, key b, owner (0 for none), each 32 bits, amount 64 bits"
-#[derive(Drop)]
+#[derive(Clone, Copy)]
 pub struct Fields {
     pub kind: u32,
     pub a: u32,
@@ -20,52 +20,61 @@ pub struct Fields {
     pub amount: u64,
 }
 
-// Of an entry without keys but for a, and of one without owner and amount.
-fn valued(kind: u32, a: u32, owner: u32, amount: u64) -> Fields
-    ensures { field_bytes result ≡ fields kind a 0 owner amount }
-{
-    Fields {
-        kind,
-        a,
-        b: 0,
-        owner,
-        amount,
-    }
-}
+const UNUSED: Fields = Fields {
+    kind: 0,
+    a: 0,
+    b: 0,
+    owner: 0,
+    amount: 0,
+};
 
-fn keyed(kind: u32, a: u32, b: u32) -> Fields
-    ensures { field_bytes result ≡ fields kind a b 0 0 }
+// Of an entry whose kind is all that it has.
+fn bare(kind: u32) -> Fields
+    ensures { field_bytes result ≡ fields kind 0 0 0 0 }
 {
-    Fields {
-        kind,
-        a,
-        b,
-        owner: 0,
-        amount: 0,
-    }
+    Fields { kind, ..UNUSED }
 }
 
 // "New uses owner and amount, post also key a, join both keys; unused fields are 0."
-fn fields_of(entry: Entry) -> Fields
-    ensures { field_bytes result ≡ entry_bytes entry }
-{
-    match entry {
-        Entry::EntryNew(owner, amount) => valued(ENTRY_NEW, 0, owner, amount),
-        Entry::EntryPost(a, owner, amount) => valued(ENTRY_POST, a, owner, amount),
-        Entry::EntryJoin(a, b) => keyed(ENTRY_JOIN, a, b),
-        Entry::EntrySnapshot => keyed(ENTRY_SNAPSHOT, 0, 0),
-        Entry::EntryRollback => keyed(ENTRY_ROLLBACK, 0, 0),
-        Entry::EntryCommit => keyed(ENTRY_COMMIT, 0, 0),
-        Entry::NoEntry => keyed(0, 0, 0),
+impl From<Entry> for Fields {
+    ghost from_gives = { λ entry f. field_bytes f ≡ entry_bytes entry };
+
+    fn from(entry: Entry) -> Fields {
+        match entry {
+            Entry::EntryNew(owner, amount) => Fields {
+                kind: ENTRY_NEW,
+                owner,
+                amount,
+                ..UNUSED
+            },
+            Entry::EntryPost(a, owner, amount) => Fields {
+                kind: ENTRY_POST,
+                a,
+                owner,
+                amount,
+                ..UNUSED
+            },
+            Entry::EntryJoin(a, b) => Fields {
+                kind: ENTRY_JOIN,
+                a,
+                b,
+                ..UNUSED
+            },
+            Entry::EntrySnapshot => bare(ENTRY_SNAPSHOT),
+            Entry::EntryRollback => bare(ENTRY_ROLLBACK),
+            Entry::EntryCommit => bare(ENTRY_COMMIT),
+            Entry::NoEntry => UNUSED,
+        }
     }
 }
 
 // Writes an entry from a place on.
+#[tactic(auto, using(crate::proofs::ByteLaws::fields_written))]
 pub fn put_entry(bytes: &mut [u8], at: usize, entry: Entry)
     requires { at + 24 ≤ length bytes.old }
     ensures { bytes.new ≡ sets bytes.old at (entry_bytes entry) }
 {
-    let fields = fields_of(entry);
+    let fields = Fields::from(entry);
     put_u32(bytes, at, fields.kind);
     put_u32(bytes, at + 4, fields.a);
     put_u32(bytes, at + 8, fields.b);
@@ -74,6 +83,7 @@ pub fn put_entry(bytes: &mut [u8], at: usize, entry: Entry)
 }
 
 // "the distance back from the trailer's first byte to the segment's first, the entry count, the segment number from 0"
+#[tactic(auto, using(crate::proofs::ByteLaws::trailer_written))]
 pub fn put_trailer(bytes: &mut [u8], at: usize, number: u32, count: u32)
     requires at_in_bounds { at + 12 ≤ length bytes.old }
     requires count_bound { count ≤ SEGMENT }

@@ -1,5 +1,5 @@
-use Rattle.std.specs.Prelude.{◌≡◌, ◌-◌}
-use Rattle.kit.specs.Names.{ap, ◌∙◌, true, take, arith}
+use Rattle.std.specs.Prelude.{◌≡◌}
+use Rattle.kit.specs.Names.{refl, ap, ◌∙◌, true, take, arith}
 use Rattle.journal.specs.Append.{segment}
 use Rattle.valid.specs.Place.{segments_told}
 use Rattle.appending.specs.Takes.{takes, with_segment}
@@ -12,13 +12,12 @@ returns-then-buffer-used c =
     let yes : takes c.args.buffer.now c.args.used c.args.entries.now ≡ true = cc in
     no_room c.args.buffer.now c.args.used c.args.entries.now yes c.if-buffer-used.true
 
-pub write_segment-after-requires : goal.write_segment-after-requires
-write_segment-after-requires c =
+pub write_segment-requires : goal.write_segment-requires
+write_segment-requires c =
     let bs = c.args.buffer.now in
     let used = c.args.used in
     let yes : takes bs used c.args.entries.now ≡ true = cc in
-    let all : used - 0 ≡ used = omega arith in
-    let number : c.segments-number.result ≡ segments_told (take used bs) = c.segments-number.ensures ∙ ap (λ n. segments_told (take n bs)) all in
+    let number : c.segments-number.result ≡ segments_told (take used bs) = c.segments-number.ensures in
     let k = taken bs used c.args.entries.now yes in
     record { room = omega (arith, k.inside); filling = k.filled; numbered = omega (arith, number, k.numbered) }
 
@@ -28,7 +27,6 @@ returns c =
     let used = c.args.used in
     let es = c.args.entries.now in
     let yes : takes bs used es ≡ true = cc in
-    let all : used - 0 ≡ used = omega arith in
-    let number : c.segments-number.result ≡ segments_told (take used bs) = c.segments-number.ensures ∙ ap (λ n. segments_told (take n bs)) all in
-    appended bs used es yes c.if-buffer-used.false c.write_segment-after.ensures.0
-    (c.write_segment-after.ensures.1 ∙ ap (λ n. with_segment bs used (segment n es)) number)
+    let number : c.segments-number.result ≡ segments_told (take used bs) = c.segments-number.ensures in
+    appended bs used es yes c.if-buffer-used.false refl
+    (c.write_segment.ensures ∙ ap (λ n. with_segment bs used (segment n es)) number)

@@ -1,36 +1,39 @@
-use Rattle.std.proofs.Common.{◌+◌, ap, ◌∙◌, get_or, length}
-use Rattle.rules.specs.Rules.{table_lent}
-use Rattle.layout.specs.State.{state_by}
+use Rattle.std.proofs.Common.{◌+◌, ap, sym, ◌∙◌, get_or, length}
+use Rattle.rules.specs.Rules.{table_in}
+use Rattle.undo_log.specs.declared.tokens.Settled.{Settled}
+use Rattle.layout.specs.Lent.{state_under}
 use Rattle.coding.specs.Coding.{call_at}
-use Rattle.journal.specs.Record.{Recorded, recorded, book}
-use Rattle.recording.specs.Barred.{barred}
+use Rattle.journal.specs.Record.{Recorded, recorded, book_in}
+use Rattle.recording.specs.Barred.{barred, no_of}
 use Rattle.record_list.proofs.MineLaws.{code_mine}
 use Rattle.record_list.proofs.StepLaws.{kept_off, carried}
 use Rattle.record_list.proofs.list.record_next.Goals as goal
 
-pub returns-then-no-ne-DONE : goal.returns-then-no-ne-DONE
-returns-then-no-ne-DONE c =
+pub returns-in-Err-clause-value : goal.returns-in-Err-clause-value
+returns-in-Err-clause-value c =
     let a = c.args in
-    let ns = a.calls.now in
-    let t = table_lent a.parents.now a.crowns.now a.amounts.now a.log.now (state_by a.head a.numbers.now a.serials.now) in
-    let mine = code_mine (get_or ns (a.at + 1) 0) (get_or ns (a.at + 2) 0) (get_or ns (a.at + 3) 0) (get_or ns a.at 0) c.requires.at_value c.is_mine-mine.ensures in
-    let barring = c.barred-no.ensures ∙ ap (λ x. barred x a.known t.state.«open» (length a.journal.now)) mine in
-    ap {B = Recorded} (λ x. recorded x t (book a.journal.now a.known)) c.refusal-answer.ensures
-    ∙ kept_off a.journal.now a.known t (call_at ns a.at) c.barred-no.result barring c.if-no-ne-DONE.true
+    let ns = a.call.now in
+    let j = book_in a.book.now in
+    let t = table_in a.lent.now (state_under a.head a.state.now) in
+    let mine = code_mine (get_or ns 1 0) (get_or ns 2 0) (get_or ns 3 0) (get_or ns 0 0) c.requires.call_value c.is_mine-mine.ensures in
+    let barring = sym (ap no_of c.in-Err.is) ∙ c.barred.ensures ∙ ap (λ x. barred x j.known t.state.«open» (length j.bytes)) mine in
+    ap {B = Recorded} (λ (x : Settled). recorded x.answer (table_in a.lent.now (state_under x.head a.state.now)) j) c.refused.ensures
+    ∙ kept_off j.bytes j.known t (call_at ns 0) c.in-Err.why barring
 
-pub note-after-requires-clause-mine_value : goal.note-after-requires-clause-mine_value
-note-after-requires-clause-mine_value c =
+pub note-requires-clause-mine_value : goal.note-requires-clause-mine_value
+note-requires-clause-mine_value c =
     let a = c.args in
-    let ns = a.calls.now in
-    code_mine (get_or ns (a.at + 1) 0) (get_or ns (a.at + 2) 0) (get_or ns (a.at + 3) 0) (get_or ns a.at 0) c.requires.at_value c.is_mine-mine.ensures
+    let ns = a.call.now in
+    code_mine (get_or ns 1 0) (get_or ns 2 0) (get_or ns 3 0) (get_or ns 0 0) c.requires.call_value c.is_mine-mine.ensures
 
-pub returns : goal.returns
-returns c =
+pub returns-clause-value : goal.returns-clause-value
+returns-clause-value c =
     let a = c.args in
-    let ns = a.calls.now in
-    let t = table_lent a.parents.now a.crowns.now a.amounts.now a.log.now (state_by a.head a.numbers.now a.serials.now) in
+    let ns = a.call.now in
+    let j = book_in a.book.now in
+    let t = table_in a.lent.now (state_under a.head a.state.now) in
     let n = c.next-settled.new in
-    let after = table_lent n.parents n.crowns n.amounts n.log (state_by c.next-settled.result.head n.numbers n.serials) in
-    let mine = code_mine (get_or ns (a.at + 1) 0) (get_or ns (a.at + 2) 0) (get_or ns (a.at + 3) 0) (get_or ns a.at 0) c.requires.at_value c.is_mine-mine.ensures in
-    let barring = c.barred-no.ensures ∙ ap (λ x. barred x a.known t.state.«open» (length a.journal.now)) mine in
-    carried a.journal.now a.known t (call_at ns a.at) barring c.if-no-ne-DONE.false {u = after} c.next-settled.ensures c.note-after.ensures
+    let after = table_in n.lent (state_under c.next-settled.result.head n.state) in
+    let mine = code_mine (get_or ns 1 0) (get_or ns 2 0) (get_or ns 3 0) (get_or ns 0 0) c.requires.call_value c.is_mine-mine.ensures in
+    let barring = c.barred.ensures ∙ ap (λ x. barred x j.known t.state.«open» (length j.bytes)) mine in
+    carried j.bytes j.known t (call_at ns 0) barring (ap no_of c.in_default.is) {u = after} c.next-settled.ensures.value c.note.ensures.put

@@ -1,2 +1,0 @@
--- What the proofs use.
-pub mod ByKind
