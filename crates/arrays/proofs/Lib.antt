@@ -1,3 +1,2 @@
 pub mod CutLaws
 pub mod PutLaws
-pub mod RoomLaws

@@ -21,9 +21,13 @@ room_for n =
     leb n.parents MOST.parents && (leb n.crowns MOST.crowns && (leb n.amounts MOST.amounts && leb n.log MOST.log))
 
 -- "write what has a place": numbers put from a place of what is lent on; those past its end are written nowhere
-abbrev pub put_lent : ℕ → List ℕ → ℕ → List ℕ → List ℕ
+abbrev pub put_lent : {A : Type 0} → ℕ → List A → ℕ → List A → List A
 put_lent n l at numbers = sets (take n l) at numbers ++ drop n l
 
--- "what is new is 0": from an old length up to a new one
+-- one number from an old length up to a new one
+abbrev pub overwritten : {A : Type 0} → ℕ → ℕ → List A → A → List A
+overwritten from to l number = sets l from (replicate (to - from) number)
+
+-- "what is new is 0"
 abbrev pub zeroed : ℕ → ℕ → List ℕ → List ℕ
-zeroed from to l = sets l from (replicate (to - from) 0)
+zeroed from to l = overwritten from to l 0

@@ -1,4 +1,4 @@
-ghost use Rattle.std.specs.Prelude.{◌≡◌, ℕ, min, max};
+ghost use Rattle.std.specs.Prelude.{◌≡◌, ℕ, min};
 ghost use Rattle.rules.specs.Rules.{ENTRY, sizes};
 ghost use Rattle.arrays.specs.Cut.{touched, most_rows};
 ghost use Rattle.arrays.specs.Room.{nothing, room_for};
@@ -18,64 +18,36 @@ pub const MOST_LOG: u32 = 917504;
 pub fn at_most(length: u32, most: usize) -> u32
     ensures { result ≡ min length most }
 {
-    if length as usize > most {
-        return most as u32;
-    }
-    length
-}
-
-// The longer of two.
-fn longer(a: u32, b: u32) -> u32
-    ensures { result ≡ max a b }
-{
-    if a < b {
-        return b;
-    }
-    a
+    (length as usize).min(most) as u32
 }
 
 // How many rows the longest of the rows' parts reaches, wholly or not.
 pub fn most_rows(parents: u32, crowns: u32, amounts: u32) -> u32
     ensures { (log : ℕ) → result ≡ most_rows (sizes parents crowns amounts log) }
 {
-    let crowned = crowns / 2 + crowns % 2;
-    longer(longer(parents, amounts), crowned)
+    parents.max(amounts).max(crowns.div_ceil(2))
 }
 
 // How many entries the log reaches, wholly or not.
 pub fn most_entries(log: u32) -> u32
     ensures { result ≡ touched log ENTRY }
 {
-    if log % 7 == 0 {
-        return log / 7;
-    }
-    log / 7 + 1
+    log.div_ceil(7)
 }
 
-// Nothing is lent.
+// Nothing is lent. A function, since contracts name it.
 pub fn nothing() -> Lengths
     ensures { result ≡ nothing }
 {
-    Lengths {
-        parents: 0,
-        crowns: 0,
-        amounts: 0,
-        log: 0,
-    }
+    Lengths::default()
 }
 
 // Whether there is room for such lengths.
 pub fn room_for(lengths: Lengths) -> bool
     ensures { result ≡ room_for lengths }
 {
-    if lengths.parents > MOST_ROWS {
-        return false;
-    }
-    if lengths.crowns > MOST_CROWNS {
-        return false;
-    }
-    if lengths.amounts > MOST_ROWS {
-        return false;
-    }
-    lengths.log <= MOST_LOG
+    lengths.parents <= MOST_ROWS
+        && lengths.crowns <= MOST_CROWNS
+        && lengths.amounts <= MOST_ROWS
+        && lengths.log <= MOST_LOG
 }

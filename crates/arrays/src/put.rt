@@ -1,66 +1,26 @@
 // Numbers put into a part: each where it has a place, and no other.
-ghost use Rattle.std.specs.Prelude.{◌≡◌, [], ◌∷◌};
-ghost use Rattle.arrays.specs.Room.{put_lent, zeroed};
+ghost use Rattle.std.specs.Prelude.{◌≡◌};
+ghost use Rattle.arrays.specs.Room.{put_lent, overwritten};
 
 // Puts numbers from place `at` of what is lent on.
-pub fn put_numbers(part: &mut [u32], length: u32, at: usize, numbers: &[u32])
+pub fn put<T: Copy>(part: &mut [T], length: u32, at: usize, numbers: &[T])
     ensures { part.new ≡ put_lent length part.old at numbers.now }
 {
-    let lent = length as usize;
-    let mut to = at;
-    let mut i = 0;
-    while i < numbers.len() {
-        if to >= lent {
-            return;
-        }
-        if to >= part.len() {
-            return;
-        }
-        part[to] = numbers[i];
-        to += 1;
-        i += 1;
-    }
-}
-
-// Puts an amount at a place of what is lent.
-pub fn put_amount(part: &mut [u64], length: u32, at: usize, amount: u64)
-    ensures { part.new ≡ put_lent length part.old at (amount ∷ []) }
-{
-    if at >= length as usize {
+    let lent = part.len().min(length as usize);
+    if at >= lent {
         return;
     }
-    if at >= part.len() {
-        return;
-    }
-    part[at] = amount;
+    let count = numbers.len().min(lent - at);
+    part[at..at + count].copy_from_slice(&numbers[..count]);
 }
 
-// A part set to 0 from one place up to another.
-pub fn clear32(part: &mut [u32], from: u32, to: u32)
-    ensures { part.new ≡ zeroed from to part.old }
+// A part set to one number from one place up to another.
+pub fn overwrite<T: Copy>(part: &mut [T], from: u32, to: u32, number: T)
+    requires cloned { T.is_infallible number }
+    requires same { (y : T) → T.is_clone number y → y ≡ number }
+    ensures { part.new ≡ overwritten from to part.old number }
 {
-    let end = to as usize;
-    let mut i = from as usize;
-    while i < end {
-        if i >= part.len() {
-            return;
-        }
-        part[i] = 0;
-        i += 1;
-    }
-}
-
-// The same for amounts.
-pub fn clear64(part: &mut [u64], from: u32, to: u32)
-    ensures { part.new ≡ zeroed from to part.old }
-{
-    let end = to as usize;
-    let mut i = from as usize;
-    while i < end {
-        if i >= part.len() {
-            return;
-        }
-        part[i] = 0;
-        i += 1;
-    }
+    let end = part.len().min(to as usize);
+    let start = end.min(from as usize);
+    part[start..end].fill(number);
 }

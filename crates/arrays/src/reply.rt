@@ -1,6 +1,5 @@
 ghost use Rattle.std.specs.Prelude.{◌≡◌};
-ghost use Rattle.rules.specs.Rules.{Table};
-ghost use Rattle.arrays.specs.Cut.{left, leaving, done_where};
+ghost use Rattle.arrays.specs.Cut.{done_where};
 
 use commands::command::Lengths;
 use rules::call::{Answer, Call};
@@ -31,19 +30,5 @@ pub struct Changed {
 pub fn done(fine: bool) -> Reply
     ensures { result ≡ done_where fine }
 {
-    if fine {
-        return Reply::Ok;
-    }
-    Reply::Error
-}
-
-// A reply, with the lengths and the state that it leaves.
-pub fn leaving(lengths: Lengths, state: State, reply: Reply) -> Changed
-    ensures { (t : State → Table) → left result t ≡ leaving reply lengths (t state) }
-{
-    Changed {
-        lengths,
-        state,
-        reply,
-    }
+    if fine { Reply::Ok } else { Reply::Error }
 }

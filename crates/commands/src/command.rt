@@ -5,6 +5,14 @@ ghost use Rattle.commands.specs.Forms.{makes_of, row_numbers};
 use rules::call::Call;
 use rules::table::Mark;
 
+// How wide a number of a line may be: a key, an owner, a rank, a kind, a length; an amount or a serial; the place of a mark.
+#[derive(Clone, Copy)]
+pub enum Width {
+    Short,
+    Long,
+    Few,
+}
+
 // A row's four lent numbers as they are written in a line.
 #[derive(Clone, Copy)]
 pub struct RowNumbers {
@@ -15,7 +23,7 @@ pub struct RowNumbers {
 }
 
 // The lengths of the four lent parts, in numbers.
-#[derive(Clone, Copy)]
+#[derive(Clone, Copy, Default)]
 pub struct Lengths {
     pub parents: u32,
     pub crowns: u32,
@@ -43,6 +51,7 @@ pub enum Command {
 // The first commands are calls.
 const CALLS: usize = 15;
 
+// The numbers of a row in their order, for both of the commands that have a row: the function that the specs name.
 fn row_numbers(parent: u32, rank: u32, owner: u32, amount: u64) -> RowNumbers
     ensures { result ≡ row_numbers parent rank owner amount }
 {
@@ -55,6 +64,7 @@ fn row_numbers(parent: u32, rank: u32, owner: u32, amount: u64) -> RowNumbers
 }
 
 // The call of a form and its numbers.
+#[tactic(auto, unfolding(crate::specs::Forms::forms))]
 fn make_call(form: usize, s: [u32; 7], n: [u64; 7]) -> Call
     requires { form < 15 }
     ensures { Command.Call result ≡ makes_of form s n }
@@ -81,7 +91,9 @@ fn make_call(form: usize, s: [u32; 7], n: [u64; 7]) -> Call
     }
 }
 
-// The command of a form and its numbers.
+// The command of a form and its numbers. A form is its place among the names in CALLS.md's order, where a name is looked up: an enum of
+// the forms would need a table more, from places to them.
+#[tactic(auto, unfolding(crate::specs::Forms::forms))]
 pub fn make(form: usize, s: [u32; 7], n: [u64; 7]) -> Command
     ensures { result ≡ makes_of form s n }
 {

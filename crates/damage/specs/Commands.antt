@@ -1,5 +1,5 @@
 -- CALLS.md, command by command: what a line leaves of the memory, of the lengths that are lent and of the state, and its reply.
-use Rattle.std.specs.Prelude.{◌+◌, ◌*◌}
+use Rattle.std.specs.Prelude.{◌+◌, ◌*◌, Option, None, Some}
 use Rattle.kit.specs.Names.{Bool, cond, ℕ, set, ltb}
 use Rattle.rules.specs.Rules.{Mark, Row, State, ENTRY, MAX-OPEN, Rows, Log, Table, table, row, value, owner_of, put_row, put_old, fresh}
 use Rattle.commands.specs.declared.command.Command.{Command}
@@ -28,11 +28,13 @@ lent_anew old new rs l =
 abbrev pub or_error : Bool → Lengths → Table → Left → Left
 or_error fine n t rest = cond fine rest (leaving reply.Error n t)
 
-abbrev pub lent_left : Lengths → Table → Lending → Left
-lent_left n t z = or_error z.room n t (leaving z.reply z.new (lent_anew z.old z.new t.rows t.log z.state))
+abbrev pub lent_left : Lengths → Table → Option Lending → Left
+lent_left n t (Some z) = leaving z.reply z.new (lent_anew z.old z.new t.rows t.log z.state)
+lent_left n t None = leaving reply.Error n t
 
-abbrev pub lending : Lengths → Lengths → State → Reply → Lending
-lending old new s r = record { room = room_for new; old = old; new = new; state = s; reply = r }
+-- other lengths, where there is room for them
+abbrev pub lending : Lengths → Lengths → State → Reply → Option Lending
+lending old new s r = cond (room_for new) (Some (record { old = old; new = new; state = s; reply = r })) None
 
 -- ---- damage: a number past the end of what is lent is written nowhere
 

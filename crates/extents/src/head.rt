@@ -3,18 +3,17 @@ ghost use Rattle.std.specs.Prelude.{◌≡◌};
 ghost use Rattle.rules.specs.Rules.{sizes};
 ghost use Rattle.replies.specs.Replies.{all_of, in_use};
 
-use arrays::lengths::{at_most, most_entries, most_rows};
+use arrays::lengths::{most_entries, most_rows};
+use commands::command::Lengths;
 use rules::table::{Head, State};
 
 // All rows and entries that the lent parts reach, and all marks.
-pub fn all_there_is(parents: u32, crowns: u32, amounts: u32, log: u32) -> Head
-    ensures { result ≡ all_of (sizes parents crowns amounts log) }
+pub fn all_there_is(lent: Lengths) -> Head
+    ensures { result ≡ all_of (sizes lent.parents lent.crowns lent.amounts lent.log) }
 {
-    let count = most_rows(parents, crowns, amounts);
-    let used = most_entries(log);
     Head {
-        count,
-        used,
+        count: most_rows(lent.parents, lent.crowns, lent.amounts),
+        used: most_entries(lent.log),
         open: 32,
     }
 }
@@ -23,11 +22,9 @@ pub fn all_there_is(parents: u32, crowns: u32, amounts: u32, log: u32) -> Head
 pub fn in_use(state: State, all: Head) -> Head
     ensures { result ≡ in_use state all }
 {
-    let count = at_most(state.count, all.count as usize);
-    let used = at_most(state.used, all.used as usize);
     Head {
-        count,
-        used,
+        count: state.count.min(all.count),
+        used: state.used.min(all.used),
         open: state.open,
     }
 }

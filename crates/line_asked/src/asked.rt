@@ -1,7 +1,7 @@
 // FILES.md: "Then it reads CALLS: the fifteen calls of CALLS.md, .. `row`, `live`, and `flush` .. other lines are `error LINE`."
 use arrays::reply::Reply;
-use check::same;
 use commands::command::Command;
+use lines::gather::Kept;
 use lines::line::command_of;
 use rules::call::Call;
 use words::words::{skip_blanks, word_end};
@@ -24,7 +24,7 @@ fn is_flush(line: &[u8]) -> bool {
     if skip_blanks(line, end) < line.len() {
         return false;
     }
-    same(&line[start..end], b"flush")
+    &line[start..end] == b"flush".as_slice()
 }
 
 // What a command asks for, of those that a recorded list may have.
@@ -38,16 +38,10 @@ fn of_command(command: Command) -> Asked {
     }
 }
 
-// What the first `n` bytes of a buffer ask for; `overlong` says that the line went on past them.
-pub fn line_asked(line: &[u8], n: usize, overlong: bool) -> Asked {
-    if overlong {
-        return of_command(command_of(line, n, overlong));
-    }
-    if n > line.len() {
-        return of_command(command_of(line, n, overlong));
-    }
-    if is_flush(&line[..n]) {
+// What the bytes of a buffer that are kept ask for.
+pub fn line_asked(line: &[u8], kept: Kept) -> Asked {
+    if !kept.overlong && kept.n <= line.len() && is_flush(&line[..kept.n]) {
         return Asked::Flush;
     }
-    of_command(command_of(line, n, overlong))
+    of_command(command_of(line, kept))
 }

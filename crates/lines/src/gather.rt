@@ -1,18 +1,19 @@
-ghost use Rattle.std.specs.Prelude.{◌≡◌, List, ℕ, take, drop};
+ghost use Rattle.std.specs.Prelude.{◌≡◌, take, drop};
 ghost use Rattle.lines.specs.Lines.{line as line_of, reached, keeping, gathering};
 
-// How much of a line is kept, and whether there was more than there is room for.
-#[derive(Clone, Copy)]
+// How much of a line is kept, and whether there was more than there is room for: of a line that is too long, all that fits is kept,
+// since its first byte tells a comment from an error.
+#[derive(Clone, Copy, Default)]
 pub struct Kept {
     pub n: usize,
     pub overlong: bool,
 }
 
-// The same after some bytes of the input: the place after them, and whether the line ended there.
+// The same after some bytes of the input, with the place after them, and whether the line ended there: a flag, since the others are
+// read in both cases.
 #[derive(Clone, Copy)]
 pub struct Gathered {
-    pub n: usize,
-    pub overlong: bool,
+    pub kept: Kept,
     pub next: usize,
     pub ended: bool,
 }
@@ -26,48 +27,31 @@ fn gather_byte(line: &mut [u8], kept: Kept, byte: u8) -> Kept
         return Kept { n, overlong: true };
     }
     line[n] = byte;
-    Kept {
-        n: n + 1,
-        overlong: kept.overlong,
-    }
+    Kept { n: n + 1, ..kept }
 }
 
+// The buffer is the caller's, with how much of it is used in `Kept`: the memory is fixed, and a line never makes it grow.
 // Takes bytes from place `from` up to `count`, or up to a line feed, which it reads over.
-pub fn gather(
-    line: &mut [u8],
-    n: usize,
-    overlong: bool,
-    input: &[u8],
-    from: usize,
-    count: usize,
-) -> Gathered
-    ensures { reached (line_of line.new result.n result.overlong) result.next result.ended
-        ≡ gathering from (line_of line.old n overlong) (drop from (take count input.now)) }
+pub fn gather(line: &mut [u8], kept: Kept, input: &[u8], from: usize, count: usize) -> Gathered
+    ensures { reached (line_of line.new result.kept.n result.kept.overlong) result.next result.ended
+        ≡ gathering from (line_of line.old kept.n kept.overlong) (drop from (take count input.now)) }
 {
-    let mut kept = Kept { n, overlong };
-    let mut i = from;
-    while i < count {
-        if i >= input.len() {
-            return gathered_at(kept, i, false);
-        }
+    let mut kept = kept;
+    let end = from.max(count.min(input.len()));
+    for i in from..end {
         let byte = input[i];
         if byte == b'\n' {
-            return gathered_at(kept, i + 1, true);
+            return Gathered {
+                kept,
+                next: i + 1,
+                ended: true,
+            };
         }
         kept = gather_byte(line, kept, byte);
-        i += 1;
     }
-    gathered_at(kept, i, false)
-}
-
-fn gathered_at(kept: Kept, next: usize, ended: bool) -> Gathered
-    ensures { (b : List ℕ) → reached (line_of b result.n result.overlong) result.next result.ended
-        ≡ reached (line_of b kept.n kept.overlong) next ended }
-{
     Gathered {
-        n: kept.n,
-        overlong: kept.overlong,
-        next,
-        ended,
+        kept,
+        next: end,
+        ended: false,
     }
 }

@@ -1,6 +1,7 @@
 ghost use Rattle.std.specs.Prelude.{◌≡◌};
 ghost use Rattle.lines.specs.Lines.{cut_off, line_command};
 
+use crate::gather::Kept;
 use commands::command::Command;
 use parser::parse::parse;
 
@@ -8,24 +9,21 @@ use parser::parse::parse;
 fn cut_off(line: &[u8]) -> Command
     ensures { result ≡ cut_off line.now }
 {
-    if line.len() == 0 {
-        return Command::Error;
-    }
-    if line[0] == b'#' {
+    if line.starts_with(b"#") {
         return Command::Blank;
     }
     Command::Error
 }
 
-// The command of the first `n` bytes of a buffer; `overlong` says that the line went on past them.
-pub fn command_of(line: &[u8], n: usize, overlong: bool) -> Command
-    ensures { result ≡ line_command line.now n overlong }
+// The command of the bytes of a buffer that are kept.
+pub fn command_of(line: &[u8], kept: Kept) -> Command
+    ensures { result ≡ line_command line.now kept.n kept.overlong }
 {
-    if overlong {
+    if kept.overlong {
         return cut_off(line);
     }
-    if n > line.len() {
+    if kept.n > line.len() {
         return Command::Error;
     }
-    parse(&line[..n])
+    parse(&line[..kept.n])
 }

@@ -1,15 +1,31 @@
 ghost use Rattle.std.specs.Prelude.{◌≡◌};
-ghost use Rattle.rules.specs.Rules.{table_lent};
+ghost use Rattle.rules.specs.Rules.{table_in, table_lent, outcome_of, step, SameParts};
 ghost use Rattle.arrays.specs.Cut.{left, called};
 
 use arrays::lengths::at_most;
 use arrays::reply::{Changed, Reply};
 use commands::command::Lengths;
-use rules::call::Call;
-use rules::table::State;
+use rules::call::{Answered, Call};
+use rules::table::{Lent, State};
 
 // A call of the table on what is lent of the four parts.
-pub fn call_lent(
+pub fn call_lent(lengths: Lengths, state: State, lent: &mut Lent<'_>, call: Call) -> Changed
+    ensures same_parts { SameParts lent.old lent.new }
+    ensures value { left result (table_in lent.new) ≡ called lengths (table_in lent.old state) call }
+{
+    call_cut(
+        lengths,
+        state,
+        lent.parents,
+        lent.crowns,
+        lent.amounts,
+        lent.log,
+        call,
+    )
+}
+
+// The same of the parts one by one, since a struct of them can't be made of parts that are cut off another one's.
+fn call_cut(
     lengths: Lengths,
     state: State,
     parents: &mut [u32],
@@ -26,7 +42,7 @@ pub fn call_lent(
     let b = at_most(lengths.crowns, crowns.len()) as usize;
     let c = at_most(lengths.amounts, amounts.len()) as usize;
     let d = at_most(lengths.log, log.len()) as usize;
-    let answered = table::by_value::call(
+    let answered = call_fronts(
         state,
         &mut parents[..a],
         &mut crowns[..b],
@@ -34,12 +50,31 @@ pub fn call_lent(
         &mut log[..d],
         call,
     );
-    let answer = answered.answer;
-    let after = answered.state;
-    let reply = Reply::Answer(call, answer);
     Changed {
         lengths,
-        state: after,
-        reply,
+        state: answered.state,
+        reply: Reply::Answer(call, answered.answer),
     }
+}
+
+// A call of the table on four parts.
+fn call_fronts(
+    state: State,
+    parents: &mut [u32],
+    crowns: &mut [u32],
+    amounts: &mut [u64],
+    log: &mut [u32],
+    call: Call,
+) -> Answered
+    ensures { let t = table_lent parents.old crowns.old amounts.old log.old in
+        let after = table_lent parents.new crowns.new amounts.new log.new in
+        outcome_of result after ≡ step (t state) call }
+{
+    let mut lent = Lent {
+        parents,
+        crowns,
+        amounts,
+        log,
+    };
+    table::by_value::call(state, &mut lent, call)
 }

@@ -1,5 +1,5 @@
 ghost use Rattle.std.specs.Prelude.{◌≡◌};
-ghost use Rattle.rules.specs.Rules.{table_lent};
+ghost use Rattle.rules.specs.Rules.{table_in, SameParts};
 ghost use Rattle.arrays.specs.Cut.{left};
 ghost use Rattle.damage.specs.Commands.{changed};
 
@@ -7,24 +7,15 @@ use crate::call::call_lent;
 use arrays::reply::Changed;
 use commands::command::{Command, Lengths};
 use others::other::other;
-use rules::table::State;
+use rules::table::{Lent, State};
 
 // Carries a command out, but for what it prints.
-pub fn change(
-    lengths: Lengths,
-    state: State,
-    parents: &mut [u32],
-    crowns: &mut [u32],
-    amounts: &mut [u64],
-    log: &mut [u32],
-    command: Command,
-) -> Changed
-    ensures { let t = table_lent parents.old crowns.old amounts.old log.old in
-        let after = table_lent parents.new crowns.new amounts.new log.new in
-        left result after ≡ changed lengths (t state) command }
+pub fn change(lengths: Lengths, state: State, lent: &mut Lent<'_>, command: Command) -> Changed
+    ensures same_parts { SameParts lent.old lent.new }
+    ensures value { left result (table_in lent.new) ≡ changed lengths (table_in lent.old state) command }
 {
     match command {
-        Command::Call(call) => call_lent(lengths, state, parents, crowns, amounts, log, call),
-        _ => other(lengths, state, parents, crowns, amounts, log, command),
+        Command::Call(call) => call_lent(lengths, state, lent, call),
+        _ => other(lengths, state, lent, command),
     }
 }

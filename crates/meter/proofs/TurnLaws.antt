@@ -23,7 +23,7 @@ module _ (s : Reading) (t : State → Table) (b out : List ℕ) where
   said c = printing out s.at (said_pieces c.lengths c.table c.reply s.line)
 
   pub answered : (command : Command) (c : Changed) (rs : Rows) (l : Log) (out' : List ℕ) (at : ℕ) (r : Reading)
-      → command ≡ line_command b s.n s.overlong → left c (table rs l) ≡ changed s.lengths (t s.state) command
+      → command ≡ line_command b s.kept.n s.kept.overlong → left c (table rs l) ≡ changed s.lengths (t s.state) command
       → Said out out' s.at (said_pieces c.lengths (table rs l c.state) c.reply s.line) at → r ≡ next_line s c.lengths c.state at
       → replying r (table rs l) out' ≡ answering s t b out
   unfolding after said
@@ -32,6 +32,10 @@ module _ (s : Reading) (t : State → Table) (b out : List ℕ) where
       x
       ∙ ap {B = Replying} (λ (z : Page). after (left c (table rs l)) z) p.said
       ∙ ap {B = Replying} (λ (z : Left). after z (said z)) (d ∙ ap {B = Left} (λ (z : Command). changed s.lengths (t s.state) z) m)
+
+-- what is left of the page's bytes is left in the buffer
+pub moved : (r : Reading) (t : State → Table) {x y : List ℕ} {w : Replying} → x ≡ y → replying r t y ≡ w → replying r t x ≡ w
+moved r t e p = rw e p
 
 -- ---- a turn
 

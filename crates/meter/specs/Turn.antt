@@ -21,7 +21,7 @@ replying s t out = record { reading = s; table = t s.state; out = out }
 
 abbrev pub answering : Reading → (State → Table) → List ℕ → List ℕ → Replying
 answering s t b out =
-    let c = changed s.lengths (t s.state) (line_command b s.n s.overlong) in
+    let c = changed s.lengths (t s.state) (line_command b s.kept.n s.kept.overlong) in
     let p = printing out s.at (said_pieces c.lengths c.table c.reply s.line) in
     record { reading = next_line s c.lengths c.table.state p.at; table = c.table; out = p.bytes }
 

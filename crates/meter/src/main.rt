@@ -4,21 +4,19 @@
 ghost use Rattle.std.specs.Prelude.{◌≤◌, length};
 
 use crate::turn::turn;
+use digits::put::Page;
 use reading::read::begin;
+use rules::table::Lent;
 use show::buffer::flush;
 use std::alloc::AllocError;
 use std::io::Read;
 
 mod turn;
 
-// A proved loop has to end, and nothing says that the input does: so turns are counted down, from a number that no run
-// uses up.
+// A proved loop has to end, and nothing says that the input does: so turns are counted, up to a number that no run reaches.
 fn work<R: Read>(
     source: &mut R,
-    parents: &mut [u32],
-    crowns: &mut [u32],
-    amounts: &mut [u64],
-    log: &mut [u32],
+    lent: &mut Lent<'_>,
     input: &mut [u8],
     line: &mut [u8],
     out: &mut [u8],
@@ -26,17 +24,16 @@ fn work<R: Read>(
     requires { 256 ≤ length out.old }
 {
     let mut reading = begin();
-    let mut turns = u64::MAX;
-    while turns > 0 {
+    for _ in 0..u64::MAX {
         if !reading.more {
             break;
         }
-        reading = turn(
-            reading, source, parents, crowns, amounts, log, input, line, out,
-        );
-        turns -= 1;
+        reading = turn(reading, source, lent, input, line, out);
     }
-    flush(out, reading.at);
+    flush(&mut Page {
+        bytes: out,
+        at: reading.at,
+    });
 }
 
 // The memory that is lent.
@@ -48,15 +45,12 @@ fn main(rt: HostRuntime) -> Result<(), AllocError> {
     let mut input = [0u8; 65536];
     let mut line = [0u8; 65536];
     let mut out = [0u8; 65536];
-    work(
-        &mut rt.reader(),
-        &mut parents,
-        &mut crowns,
-        &mut amounts,
-        &mut log,
-        &mut input,
-        &mut line,
-        &mut out,
-    );
+    let mut lent = Lent {
+        parents: &mut parents,
+        crowns: &mut crowns,
+        amounts: &mut amounts,
+        log: &mut log,
+    };
+    work(&mut rt.reader(), &mut lent, &mut input, &mut line, &mut out);
     Ok(())
 }

@@ -1,11 +1,13 @@
 // A turn of the program: a line gathered, its command carried out, its reply printed.
 ghost use Rattle.std.specs.Prelude.{◌≡◌, ◌≤◌, ◌<◌, length};
-ghost use Rattle.rules.specs.Rules.{table_lent};
+ghost use Rattle.rules.specs.Rules.{table_in, SameParts};
 ghost use Rattle.meter.specs.Turn.{replying, answering, turned, turning};
 
+use digits::put::Page;
 use lines::line::command_of;
 use memory::change::change;
 use reading::read::{Reading, next_line, refill, take};
+use rules::table::Lent;
 use say::say::say;
 use std::io::Read;
 
@@ -14,19 +16,15 @@ use std::io::Read;
 pub fn turn<R: Read>(
     reading: Reading,
     source: &mut R,
-    parents: &mut [u32],
-    crowns: &mut [u32],
-    amounts: &mut [u64],
-    log: &mut [u32],
+    lent: &mut Lent<'_>,
     input: &mut [u8],
     line: &mut [u8],
     out: &mut [u8],
 ) -> Reading
     requires { 256 ≤ length out.old }
-    ensures out_after { let t = table_lent parents.old crowns.old amounts.old log.old in
-        let after = table_lent parents.new crowns.new amounts.new log.new in
-        turned result after line.new out.new
-        ≡ turning reading t line.old out.old input.new result.count }
+    ensures same_parts { SameParts lent.old lent.new }
+    ensures out_after { turned result (table_in lent.new) line.new out.new
+        ≡ turning reading (table_in lent.old) line.old out.old input.new result.count }
     ensures input_unchanged { reading.from < reading.count → input.new ≡ input.old }
 {
     let filled = refill(reading, source, input);
@@ -34,42 +32,28 @@ pub fn turn<R: Read>(
     if !got.ended {
         return got;
     }
-    answer(got, parents, crowns, amounts, log, line, out)
+    answer(got, lent, line, out)
 }
 
 // A line's command carried out, and its reply printed.
-fn answer(
-    reading: Reading,
-    parents: &mut [u32],
-    crowns: &mut [u32],
-    amounts: &mut [u64],
-    log: &mut [u32],
-    line: &[u8],
-    out: &mut [u8],
-) -> Reading
+fn answer(reading: Reading, lent: &mut Lent<'_>, line: &[u8], out: &mut [u8]) -> Reading
     requires { 256 ≤ length out.old }
-    ensures { let t = table_lent parents.old crowns.old amounts.old log.old in
-        let after = table_lent parents.new crowns.new amounts.new log.new in
-        replying result after out.new ≡ answering reading t line.now out.old }
+    ensures same_parts { SameParts lent.old lent.new }
+    ensures value { replying result (table_in lent.new) out.new ≡ answering reading (table_in lent.old) line.now out.old }
 {
-    let lengths = reading.lengths;
-    let state = reading.state;
-    let command = command_of(line, reading.n, reading.overlong);
-    let changed = change(lengths, state, parents, crowns, amounts, log, command);
-    let after_lengths = changed.lengths;
-    let after = changed.state;
-    let reply = changed.reply;
-    let at = say(
-        out,
-        reading.at,
-        after_lengths,
-        after,
-        parents,
-        crowns,
-        amounts,
-        log,
-        reply,
+    let command = command_of(line, reading.kept);
+    let changed = change(reading.lengths, reading.state, lent, command);
+    let mut page = Page {
+        bytes: out,
+        at: reading.at,
+    };
+    say(
+        &mut page,
+        changed.lengths,
+        changed.state,
+        lent.seen(),
+        changed.reply,
         reading.line,
     );
-    next_line(reading, changed, at)
+    next_line(reading, changed, page.at)
 }

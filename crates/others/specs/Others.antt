@@ -1,5 +1,5 @@
 -- What a command leaves that is no call.
-use Rattle.std.specs.Prelude.{Bool, true, false, cond, ◌||◌}
+use Rattle.std.specs.Prelude.{Bool, true, false, cond}
 use Rattle.rules.specs.Rules.{Table}
 use Rattle.commands.specs.declared.command.Command.{Command}
 use Rattle.commands.specs.declared.command.Command.TheVariants as command
@@ -22,28 +22,9 @@ is_call (command.SetState count used opened last) = false
 is_call (command.SetMark i m) = false
 is_call (command.Lend new) = false
 
--- whether it puts numbers into what is lent
-abbrev pub is_put : Command → Bool
-is_put command.Blank = false
-is_put command.Error = false
-is_put (command.Call c) = false
-is_put (command.Table rows entries) = false
-is_put (command.Row key) = false
-is_put command.Live = false
-is_put command.Dump = false
-is_put (command.SetRow key r) = true
-is_put (command.SetEntry i kind key r) = true
-is_put (command.SetState count used opened last) = false
-is_put (command.SetMark i m) = false
-is_put (command.Lend new) = false
-
 abbrev pub error_where : Bool → Lengths → Table → Command → Left
 error_where wrong n t c = cond wrong (leaving reply.Error n t) (changed n t c)
 
 -- a call is carried out elsewhere
 abbrev pub otherwise : Lengths → Table → Command → Left
 otherwise n t c = error_where (is_call c) n t c
-
--- and so are the numbers that are put, where lengths are lent
-abbrev pub lending_left : Lengths → Table → Command → Left
-lending_left n t c = error_where (is_call c || is_put c) n t c

@@ -6,7 +6,8 @@ use Rattle.parser.proofs.CommandLaws.{either}
 use Rattle.words.proofs.LineLaws.{placed}
 use Rattle.words.proofs.NumeralLaws.{both, in_limit}
 use Rattle.parser.specs.Command.{command_of, fit, command_with, of_words}
-use Rattle.commands.specs.Forms.{Form, form_at, forms, limit, names, Width}
+use Rattle.commands.specs.Forms.{Form, form_at, forms, limit, names}
+use Rattle.commands.specs.declared.command.Width.{Width}
 use Rattle.words.specs.Line.{place_in, words}
 use Rattle.words.specs.Numeral.{decimal, is_numeral}
 use Rattle.commands.specs.declared.command.Command.TheVariants.{Blank, Error}

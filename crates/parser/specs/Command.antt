@@ -3,7 +3,8 @@ use Rattle.std.specs.Prelude.{◌&&◌, ◌∷◌}
 use Rattle.kit.specs.Names.{Bool, true, false, cond, List, [], ℕ, get_or, eqb}
 use Rattle.words.specs.Line.{place_in, words}
 use Rattle.words.specs.Numeral.{decimal, is_numeral}
-use Rattle.commands.specs.Forms.{Form, form_at, limit, names, Width, few, long, short}
+use Rattle.commands.specs.Forms.{Form, form_at, limit, names}
+use Rattle.commands.specs.declared.command.Width.{Width}
 use Rattle.commands.specs.declared.command.Command.{Command}
 use Rattle.commands.specs.declared.command.Command.TheVariants.{Blank, Error}
 
@@ -28,9 +29,3 @@ of_words (name ∷ xs) = command_with (form_at (place_in names name)) xs
 unfoldable pub command_of : List ℕ → Command
 command_of [] = Blank
 command_of (b ∷ bs) = cond (eqb b 35) Blank (of_words (words (b ∷ bs)))
-
--- ---- the numbers of a line as the code has them
-
--- a width by the digit that the code has for it
-abbrev pub limit_of : ℕ → ℕ
-limit_of digit = cond (eqb digit 1) (limit few) (cond (eqb digit 4) (limit short) (limit long))

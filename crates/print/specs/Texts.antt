@@ -1,11 +1,9 @@
 -- What is printed, as CALLS.md has it.
-use Rattle.std.specs.Prelude.{◌∷◌, ◌++◌}
+use Rattle.std.specs.Prelude.{◌∷◌, ◌++◌, Option, None, Some}
 use Rattle.kit.specs.Names.{List, [], ℕ}
 use Rattle.rules.specs.Rules.{answer_numbers, Answer, Mark, State}
 use Rattle.words.specs.Bytes.{bytes}
 use Rattle.digits.specs.Printed.{listed, spell}
-use Rattle.print.specs.declared.print.Cell.{Cell}
-use Rattle.print.specs.declared.print.Cell.TheVariants.{Missing, Number}
 
 -- "separated by one blank": one between two
 abbrev pub spaced : List ℕ → List ℕ
@@ -16,10 +14,14 @@ spaced (n ∷ ns) = spell n ++ listed ns
 unfoldable pub answer_text : Answer → List ℕ
 answer_text a = spaced (answer_numbers a)
 
+-- a lent number, or that there is none at this place
+abbrev pub Cell : Type 0
+Cell = Option ℕ
+
 -- a lent number, and "`-` for what is missing"
 unfoldable pub cell_text : Cell → List ℕ
-cell_text Missing = bytes " -"
-cell_text (Number n) = listed (n ∷ [])
+cell_text None = bytes " -"
+cell_text (Some n) = listed (n ∷ [])
 
 unfoldable pub cells : List Cell → List ℕ
 cells [] = []

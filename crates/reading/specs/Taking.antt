@@ -5,7 +5,11 @@ use Rattle.rules.specs.Rules.{State, fresh, MAX-U64}
 use Rattle.commands.specs.declared.command.Lengths.{Lengths}
 use Rattle.arrays.specs.Room.{nothing}
 use Rattle.reading.specs.declared.read.Reading.{Reading}
+use Rattle.lines.specs.declared.gather.Kept.{Kept}
 use Rattle.lines.specs.Lines.{Reached, line, gathering}
+
+abbrev pub none_kept : Kept
+none_kept = record { n = 0; overlong = false }
 
 -- "Before the first `table`, a table of 0 rows and 0 entries is lent."
 abbrev pub beginning : Reading
@@ -15,8 +19,7 @@ beginning =
       state = fresh;
       line = 0;
       at = 0;
-      n = 0;
-      overlong = false;
+      kept = none_kept;
       from = 0;
       count = 0;
       more = true;
@@ -33,8 +36,7 @@ reading s count =
       state = s.state;
       line = s.line;
       at = s.at;
-      n = s.n;
-      overlong = s.overlong;
+      kept = s.kept;
       from = 0;
       count = count;
       more = ltb 0 count;
@@ -60,8 +62,7 @@ reaching s g ended number =
       state = s.state;
       line = number;
       at = s.at;
-      n = g.line.n;
-      overlong = g.line.overlong;
+      kept = record { n = g.line.n; overlong = g.line.overlong };
       from = g.next;
       count = s.count;
       more = s.more;
@@ -78,7 +79,7 @@ took s b = record { reading = s; buffer = b }
 
 abbrev pub taking : Reading → List ℕ → List ℕ → Took
 taking s b input =
-    let g = gathering s.from (line b s.n s.overlong) (drop s.from (take s.count input)) in
+    let g = gathering s.from (line b s.kept.n s.kept.overlong) (drop s.from (take s.count input)) in
     let ended = ends_at s.more g in
     took (reaching s g ended (line_number s.line ended)) g.line.buffer
 
@@ -90,8 +91,7 @@ next_line s n st at =
       state = st;
       line = s.line;
       at = at;
-      n = 0;
-      overlong = false;
+      kept = none_kept;
       from = s.from;
       count = s.count;
       more = s.more;

@@ -1,5 +1,5 @@
 -- Laws of pieces that are printed. Assumes nothing.
-use Rattle.std.specs.Prelude.{◌≡◌, ◌∷◌, ◌++◌, ◌+◌, ◌≤◌}
+use Rattle.std.specs.Prelude.{◌≡◌, ◌∷◌, ◌++◌, ◌+◌}
 use Rattle.kit.specs.Names.{refl, ap, sym, ◌∙◌, List, [], ℕ, length, paste, add-one}
 use Rattle.digits.specs.Printed.{Printed}
 use Rattle.show.specs.Pieces.{Page, placed, printing, Said}
@@ -19,10 +19,10 @@ unfolding printing
 nothing = record { said = refl }
 
 -- a text at the place that is made for it
-pub piece : {before after text : List ℕ} {at start end : ℕ} → start ≡ placed (length before) at → Printed before after start text end
-    → Said before after at (text ∷ []) end
+pub piece : {before cleared after text : List ℕ} {at start end : ℕ} → cleared ≡ before → start ≡ placed (length before) at
+    → Printed cleared after start text end → Said before after at (text ∷ []) end
 unfolding printing
-piece e p = record { said = rw (p.stands, p.place, e) }
+piece same e p = record { said = rw (p.stands, p.place, same, e) }
 
 -- pieces after pieces
 pub then : {before middle after : List ℕ} {xs ys : Pieces} {at mid end : ℕ} → Said before middle at xs mid → Said middle after mid ys end
@@ -36,10 +36,6 @@ then {before} {middle} {after} {xs} {ys} {at} p q =
 pub saying : {before after : List ℕ} {xs ys : Pieces} {at end : ℕ} → xs ≡ ys → Said before after at xs end → Said before after at ys end
 saying e p = rw e at p
 
--- a buffer keeps its length, and so the room that it has
-pub roomy : {now before : ℕ} → now ≡ before → 256 ≤ before → 256 ≤ now
-roomy e h = rw e h
-
 -- ---- so many
 
 pub none : {b : List ℕ} {at : ℕ} (f : ℕ → Pieces) → Said b b at (each 0 f) at
@@ -50,7 +46,3 @@ pub one_more : {before middle after : List ℕ} {at mid end : ℕ} (i : ℕ) (f 
     → Said middle after mid (f i) end → Said before after at (each (i + 1) f) end
 unfolding each
 one_more i f p q = rw (add-one i) (then p q)
-
-pub all : {before after : List ℕ} {at end : ℕ} (i n : ℕ) (f : ℕ → Pieces) → i ≡ n → Said before after at (each i f) end
-    → Said before after at (each n f) end
-all i n f e p = rw e at p

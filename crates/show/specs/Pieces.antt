@@ -1,6 +1,7 @@
 -- What is printed into the program's buffer: pieces, one after the other.
 use Rattle.std.specs.Prelude.{◌≡◌, ◌∷◌, ◌+◌, ◌-◌}
 use Rattle.kit.specs.Names.{cond, List, [], ℕ, length, ltb, paste}
+use Rattle.digits.specs.declared.put.Page as put
 
 -- No piece is longer.
 abbrev pub ROOM : ℕ
@@ -27,3 +28,7 @@ printing buffer at (x ∷ xs) =
 -- These pieces were printed from a place on, and nothing else was changed.
 pub record Said (before after : List ℕ) (at : ℕ) (pieces : List (List ℕ)) (end : ℕ) : Type 0 where
   pub said : page after end ≡ printing before at pieces
+
+-- The same of the page that a function prints into.
+abbrev pub Says : put.Page → put.Page → List (List ℕ) → Type 0
+Says p p' pieces = Said p.bytes.now p'.bytes.now p.at pieces p'.at

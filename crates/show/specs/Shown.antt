@@ -1,13 +1,11 @@
 -- Rows, entries and marks, piece by piece: CALLS.md, in its order.
-use Rattle.std.specs.Prelude.{◌∷◌, ◌++◌, ◌+◌, ◌-◌, ◌*◌}
+use Rattle.std.specs.Prelude.{◌∷◌, ◌++◌, ◌+◌, ◌-◌, ◌*◌, None, Some}
 use Rattle.kit.specs.Names.{cond, List, [], ℕ, zero, suc, length, get_or, ltb}
 use Rattle.rules.specs.Rules.{State, Rows, Log, mark_at, number_of, amount_of, CROWN, ENTRY, viewed}
 use Rattle.parts.specs.declared.entries.Numbers.{Numbers}
 use Rattle.extract.specs.Numbers.{lent_at}
 use Rattle.words.specs.Bytes.{bytes}
-use Rattle.print.specs.Texts.{row_text, kind_text, mark_text}
-use Rattle.print.specs.declared.print.Cell.{Cell}
-use Rattle.print.specs.declared.print.Cell.TheVariants.{Missing, Number}
+use Rattle.print.specs.Texts.{Cell, row_text, kind_text, mark_text}
 
 abbrev pub Pieces : Type 0
 Pieces = List (List ℕ)
@@ -22,8 +20,8 @@ each (suc n) f = each n f ++ f n
 -- " | KIND KEY PARENT RANK OWNER AMOUNT", "the numbers as they are lent"
 abbrev pub numbers_pieces : Numbers → Pieces
 numbers_pieces e =
-    kind_text (Number e.kind) (Number e.key)
-    ∷ row_text (Number e.old.parent) (Number e.old.rank) (Number (number_of e.old.owner)) (Number e.old.amount)
+    kind_text (Some e.kind) (Some e.key)
+    ∷ row_text (Some e.old.parent) (Some e.old.rank) (Some (number_of e.old.owner)) (Some e.old.amount)
     ∷ []
 
 -- the entries of the log from one to another, as the view shows them
@@ -34,13 +32,13 @@ since_pieces l from to = each (to - from) (λ i. numbers_pieces (lent_at (viewed
 
 -- a lent number; "`-` for each number that is missing"
 abbrev pub cell_at : List ℕ → ℕ → Cell
-cell_at part i = cond (ltb i (length part)) (Number (get_or part i 0)) Missing
+cell_at part i = cond (ltb i (length part)) (Some (get_or part i 0)) None
 
 -- "of a log's amount, where either of its two words is"
 abbrev pub both : Cell → Cell → Cell
-both Missing high = Missing
-both (Number low) Missing = Missing
-both (Number low) (Number high) = Number (amount_of low high)
+both None high = None
+both (Some low) None = None
+both (Some low) (Some high) = Some (amount_of low high)
 
 -- "PARENT RANK OWNER AMOUNT"
 abbrev pub row_piece : Rows → ℕ → List ℕ

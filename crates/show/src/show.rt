@@ -1,175 +1,120 @@
 ghost use Rattle.std.specs.Prelude.{◌≡◌, [], ◌∷◌, ◌+◌, ◌≤◌, ◌<◌, min, length};
-ghost use Rattle.rules.specs.Rules.{rows_lent};
-ghost use Rattle.print.specs.Texts.{kind_text, row_text};
-ghost use Rattle.show.specs.Pieces.{Said};
+ghost use Rattle.rules.specs.Rules.{rows_seen};
+ghost use Rattle.digits.specs.Page.{SamePage};
+ghost use Rattle.print.specs.Texts.{kind_text, mark_text, row_text};
+ghost use Rattle.show.specs.Pieces.{Says};
 ghost use Rattle.show.specs.Shown.{each, cell_at, both, row_piece, row_pieces, entry_pieces, mark_pieces};
 
 use crate::buffer::{room, word};
+use digits::put::Page;
 use parts::amounts::amount_of;
-use print::print::{Cell, put_kind, put_mark, put_row};
+use print::print::{Cells, put_kind, put_mark, put_row};
 use rules::numbers::{CROWN, ENTRY};
-use rules::table::State;
-
-// A number that is there.
-pub fn cell(number: u32) -> Cell
-    ensures { result ≡ Cell.Number number }
-{
-    Cell::Number(number as u64)
-}
+use rules::table::{Mark, Seen, State};
 
 // What a part has at a place, if that is lent.
-pub fn cell32(part: &[u32], at: usize) -> Cell
+fn cell(part: &[u32], at: usize) -> Option<u64>
     ensures { result ≡ cell_at part.now at }
 {
-    if at >= part.len() {
-        return Cell::Missing;
-    }
-    cell(part[at])
-}
-
-// The same for amounts.
-pub fn cell64(part: &[u64], at: usize) -> Cell
-    ensures { result ≡ cell_at part.now at }
-{
-    if at >= part.len() {
-        return Cell::Missing;
-    }
-    Cell::Number(part[at])
+    let &number = part.get(at)?;
+    Some(number as u64)
 }
 
 // The amount whose low word the log has at a place, and its high word after it, if both are lent.
-pub fn amount_cell(log: &[u32], at: usize) -> Cell
+fn logged_amount(log: &[u32], at: usize) -> Option<u64>
     ensures { result ≡ both (cell_at log.now at) (cell_at log.now (at + 1)) }
 {
-    if at >= log.len() {
-        return Cell::Missing;
-    }
-    let next = at + 1;
-    if next >= log.len() {
-        return Cell::Missing;
-    }
-    Cell::Number(amount_of(log[at], log[next]))
+    let &low = log.get(at)?;
+    let &high = log.get(at + 1)?;
+    Some(amount_of(low, high))
 }
 
 // A row's four numbers.
-pub fn row_cells(
-    out: &mut [u8],
-    at: usize,
-    parents: &[u32],
-    crowns: &[u32],
-    amounts: &[u64],
-    i: u32,
-) -> usize
-    requires { 256 ≤ length out.old }
-    ensures { let rs = rows_lent parents.now crowns.now amounts.now in
-        Said out.old out.new at (row_piece rs i ∷ []) result }
+pub fn row_cells(page: &mut Page<'_>, seen: Seen<'_>, i: u32)
+    requires { 256 ≤ length page.old.bytes.now }
+    ensures same_page { SamePage page.old page.new }
+    ensures said { Says page.old page.new (row_piece (rows_seen seen.entry) i ∷ []) }
 {
     let place = i as usize;
     let base = place * CROWN;
-    let parent = cell32(parents, place);
-    let rank = cell32(crowns, base);
-    let owner = cell32(crowns, base + 1);
-    let amount = cell64(amounts, place);
-    let start = room(out, at);
-    put_row(out, start, parent, rank, owner, amount)
+    let row = Cells {
+        parent: cell(seen.parents, place),
+        rank: cell(seen.crowns, base),
+        owner: cell(seen.crowns, base + 1),
+        amount: seen.amounts.get(place).copied(),
+    };
+    room(page);
+    put_row(page, row);
 }
 
 // The first `n` rows, a bar before each.
-pub fn rows(
-    out: &mut [u8],
-    at: usize,
-    parents: &[u32],
-    crowns: &[u32],
-    amounts: &[u64],
-    n: u32,
-) -> usize
-    requires { 256 ≤ length out.old }
-    ensures { let rs = rows_lent parents.now crowns.now amounts.now in
-        Said out.old out.new at (each n (row_pieces rs)) result }
+pub fn rows(page: &mut Page<'_>, seen: Seen<'_>, n: u32)
+    requires { 256 ≤ length page.old.bytes.now }
+    ensures same_page { SamePage page.old page.new }
+    ensures said { Says page.old page.new (each n (row_pieces (rows_seen seen.entry))) }
 {
-    let mut end = at;
-    let mut i = 0;
-    while i < n {
-        let start = word(out, end, b" |");
-        end = row_cells(out, start, parents, crowns, amounts, i);
-        i += 1;
+    for i in 0..n {
+        word(page, b" |");
+        row_cells(page, seen, i);
     }
-    end
 }
 
 // An entry's six numbers, after a bar.
-pub fn put_entry(
-    out: &mut [u8],
-    at: usize,
-    kind: Cell,
-    key: Cell,
-    parent: Cell,
-    rank: Cell,
-    owner: Cell,
-    amount: Cell,
-) -> usize
-    requires { 256 ≤ length out.old }
-    ensures { Said out.old out.new at (kind_text kind key ∷ row_text parent rank owner amount ∷ []) result }
+pub fn put_entry(page: &mut Page<'_>, kind: Option<u64>, key: Option<u64>, row: Cells)
+    requires { 256 ≤ length page.old.bytes.now }
+    ensures same_page { SamePage page.old page.new }
+    ensures said { Says page.old page.new (kind_text kind key ∷ row_text row.parent row.rank row.owner row.amount ∷ []) }
 {
-    let start = room(out, at);
-    let middle = put_kind(out, start, kind, key);
-    let next = room(out, middle);
-    put_row(out, next, parent, rank, owner, amount)
+    room(page);
+    put_kind(page, kind, key);
+    room(page);
+    put_row(page, row);
 }
 
 // Entry `i` of the log.
-fn entry_cells(out: &mut [u8], at: usize, log: &[u32], i: u32) -> usize
-    requires { 256 ≤ length out.old }
-    ensures { Said out.old out.new at (entry_pieces log.now i) result }
+fn entry_cells(page: &mut Page<'_>, log: &[u32], i: u32)
+    requires { 256 ≤ length page.old.bytes.now }
+    ensures same_page { SamePage page.old page.new }
+    ensures said { Says page.old page.new (entry_pieces log.now i) }
 {
     let base = i as usize * ENTRY;
-    let kind = cell32(log, base);
-    let key = cell32(log, base + 1);
-    let parent = cell32(log, base + 2);
-    let rank = cell32(log, base + 3);
-    let owner = cell32(log, base + 4);
-    let amount = amount_cell(log, base + 5);
-    put_entry(out, at, kind, key, parent, rank, owner, amount)
+    let row = Cells {
+        parent: cell(log, base + 2),
+        rank: cell(log, base + 3),
+        owner: cell(log, base + 4),
+        amount: logged_amount(log, base + 5),
+    };
+    put_entry(page, cell(log, base), cell(log, base + 1), row);
 }
 
 // The first `n` entries, a bar before each.
-pub fn entries(out: &mut [u8], at: usize, log: &[u32], n: u32) -> usize
-    requires { 256 ≤ length out.old }
-    ensures { Said out.old out.new at (each n (entry_pieces log.now)) result }
+pub fn entries(page: &mut Page<'_>, log: &[u32], n: u32)
+    requires { 256 ≤ length page.old.bytes.now }
+    ensures same_page { SamePage page.old page.new }
+    ensures said { Says page.old page.new (each n (entry_pieces log.now)) }
 {
-    let mut end = at;
-    let mut i = 0;
-    while i < n {
-        end = entry_cells(out, end, log, i);
-        i += 1;
+    for i in 0..n {
+        entry_cells(page, log, i);
     }
-    end
 }
 
 // One mark, after a bar.
-fn one_mark(out: &mut [u8], at: usize, state: State, i: usize) -> usize
-    requires i_bound { i < 32 }
-    requires in_bounds { 256 ≤ length out.old }
-    ensures { Said out.old out.new at (mark_pieces state i) result }
+fn one_mark(page: &mut Page<'_>, mark: Mark)
+    requires { 256 ≤ length page.old.bytes.now }
+    ensures same_page { SamePage page.old page.new }
+    ensures said { Says page.old page.new (mark_text mark ∷ []) }
 {
-    let mark = state.marks[i];
-    let start = room(out, at);
-    put_mark(out, start, mark)
+    room(page);
+    put_mark(page, mark);
 }
 
 // The first `n` marks, and no more than there are.
-pub fn marks(out: &mut [u8], at: usize, state: State, n: u32) -> usize
-    requires { 256 ≤ length out.old }
-    ensures { Said out.old out.new at (each (min n 32) (mark_pieces state)) result }
+pub fn marks(page: &mut Page<'_>, state: State, n: u32)
+    requires { 256 ≤ length page.old.bytes.now }
+    ensures same_page { SamePage page.old page.new }
+    ensures said { Says page.old page.new (each (min n 32) (mark_pieces state)) }
 {
-    let mut end = at;
-    let mut i = 0;
-    while i < 32 {
-        if i >= n {
-            return end;
-        }
-        end = one_mark(out, end, state, i as usize);
-        i += 1;
+    for &mark in &state.marks[..n.min(32) as usize] {
+        one_mark(page, mark);
     }
-    end
 }

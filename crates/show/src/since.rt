@@ -1,44 +1,43 @@
 // The entries since a snapshot, printed as they are lent: each is read through the view of the log.
 ghost use Rattle.std.specs.Prelude.{◌≤◌, length};
-ghost use Rattle.show.specs.Pieces.{Said};
+ghost use Rattle.digits.specs.Page.{SamePage};
+ghost use Rattle.show.specs.Pieces.{Says};
 ghost use Rattle.show.specs.Shown.{numbers_pieces, since_pieces};
 
-use crate::show::{cell, put_entry};
+use crate::show::put_entry;
 use actions::view::lent_action_at;
-use makers::owner::number_of;
+use digits::put::Page;
 use parts::entries::Numbers;
-use print::print::Cell;
+use print::print::Cells;
 
 // An entry's six numbers, after a bar.
-fn entry(out: &mut [u8], at: usize, numbers: Numbers) -> usize
-    requires { 256 ≤ length out.old }
-    ensures { Said out.old out.new at (numbers_pieces numbers) result }
+fn entry(page: &mut Page<'_>, numbers: Numbers)
+    requires { 256 ≤ length page.old.bytes.now }
+    ensures same_page { SamePage page.old page.new }
+    ensures said { Says page.old page.new (numbers_pieces numbers) }
 {
     let old = numbers.old;
-    let held = old.owner;
+    let row = Cells {
+        parent: Some(old.parent as u64),
+        rank: Some(old.rank as u64),
+        owner: Some(u32::from(old.owner) as u64),
+        amount: Some(old.amount),
+    };
     put_entry(
-        out,
-        at,
-        cell(numbers.kind),
-        cell(numbers.key),
-        cell(old.parent),
-        cell(old.rank),
-        cell(number_of(held)),
-        Cell::Number(old.amount),
-    )
+        page,
+        Some(numbers.kind as u64),
+        Some(numbers.key as u64),
+        row,
+    );
 }
 
 // The entries of the log from one to another, oldest first.
-pub fn entries_since<'a>(out: &mut [u8], at: usize, log: &'a [u32], from: u32, to: u32) -> usize
-    requires { 256 ≤ length out.old }
-    ensures { Said out.old out.new at (since_pieces log.now from to) result }
+pub fn entries_since(page: &mut Page<'_>, log: &[u32], from: u32, to: u32)
+    requires { 256 ≤ length page.old.bytes.now }
+    ensures same_page { SamePage page.old page.new }
+    ensures said { Says page.old page.new (since_pieces log.now from to) }
 {
-    let mut end = at;
-    let mut i = from;
-    while i < to {
-        let numbers = lent_action_at(log, from, to, (i - from) as usize);
-        end = entry(out, end, numbers);
-        i += 1;
+    for i in 0..to.saturating_sub(from) {
+        entry(page, lent_action_at(log, from, to, i as usize));
     }
-    end
 }

@@ -1,8 +1,15 @@
 -- Laws of a line's words. Assumes nothing.
 use Rattle.std.specs.Prelude.{◌≡◌, ◌∷◌, ◌++◌, ◌+◌, ◌-◌, ◌≤◌, ◌<◌}
-use Rattle.kit.specs.Names.{refl, sym, ◌∙◌, Bool, true, false, cond, List, [], ℕ, suc, length, get_or, take, drop, length-drop, drop_of_length-le, eqb, drop-cons}
+use Rattle.kit.specs.Names.{refl, sym, ◌∙◌, Bool, true, false, cond, List, [], ℕ, zero, suc, length, get_or, take, drop, length-drop, drop_of_length-le, eqb, drop-cons}
 use Rattle.kit.specs.Names.{take-suc, get_or-drop, length-take-le, arith, dec_lt, add-one, eq-eqb, eqb-true, ne_eqb}
-use Rattle.words.specs.Line.{BLANK, ended, place_in, Spans, words_after, words}
+use Rattle.std.proofs.Common.{nat_eq, unwrap_or, not, add-zero}
+use Rattle.std.specs.List.{position, position_or_len}
+use Rattle.std.proofs.lemmas.Grind.{common_steps}
+use Rattle.std.proofs.lemmas.Bool.Decides.{nat_tests, Decides-eqb}
+use Rattle.std.proofs.lemmas.Slice.Eq.{slice_eq-Decides}
+use Rattle.std.specs.Cmp.Lexicographic.{pointwise}
+use Rattle.std.proofs.lemmas.List.Sums.{fails_before_first, passes_at_first, prefix_len-le-length}
+use Rattle.words.specs.Line.{BLANK, ended, place_in, Skipped, Spans, words_after, words}
 use Rattle.words.specs.Bytes.{same_bytes}
 use Rattle.words.proofs.NumeralLaws.{both}
 
@@ -87,6 +94,10 @@ told_same {r} {xs} {ys} told = go r (same_bytes xs ys) told.0 told.1 (same_bytes
     go false true p q is same = sym (q (is refl))
     go false false p q is same = refl
 
+-- what `==` at slices says
+pub told_equal : (xs ys : List ℕ) {r : Bool} → r ≡ pointwise nat_eq xs ys → same_bytes xs ys ≡ r
+told_equal xs ys {r} e = told_same (slice_eq-Decides Decides-eqb xs ys r e)
+
 -- the place of a word among others is one where it stands, or past the last
 pub placed : (ws : List (List ℕ)) (word : List ℕ)
     → (place_in ws word ≤ length ws) × (place_in ws word < length ws → get_or ws (place_in ws word) [] ≡ word)
@@ -108,3 +119,63 @@ module _ (all rest : List (List ℕ)) (word : List ℕ) (passed : ℕ) {more : L
   pub next_word : same_bytes word w ≡ false → place_in all word ≡ passed + 1 + place_in more word
   unfolding place_in
   next_word e = rw (so_far, split, e) (omega arith)
+
+-- ---- the first byte that is a blank, or none
+
+first_or_end : {X : Type 0} (p : X → Bool) (xs : List X) → unwrap_or (position p xs) (length xs) ≡ position_or_len p xs
+first_or_end p xs = grind (arith, nat_tests, prefix_len-le-length)
+
+-- the rest of a line from a place on, as it is cut
+abbrev rest_from : List ℕ → ℕ → List ℕ
+rest_from line from = take (length line - from) (drop from line)
+
+rest_of : (line : List ℕ) (from : ℕ) → rest_from line from ≡ drop from line
+rest_of line from = grind (arith, common_steps)
+
+abbrev LETTER : ℕ → Bool
+LETTER b = not (eqb b BLANK)
+
+is_blank : (b : ℕ) → LETTER b ≡ false → b ≡ BLANK
+is_blank b e = grind (arith, nat_tests)
+
+is_letter : (b : ℕ) → LETTER b ≡ true → b ≡ BLANK → ⊥
+is_letter b e q = grind (arith, nat_tests)
+
+not_blank : (b : ℕ) → eqb b BLANK ≡ false → b ≡ BLANK → ⊥
+not_blank b e q = grind (arith, nat_tests)
+
+-- so many blanks in front change none of a line's words
+past_blanks : (line : List ℕ) (from n : ℕ) → from + n ≤ length line → ((k : ℕ) → k < n → get_or line (from + k) 0 ≡ BLANK) → words (drop from line) ≡ words (drop (from + n) line)
+past_blanks line from zero h q = rw add-zero
+past_blanks line from (suc n) h q =
+    let e : from + suc n ≡ from + n + 1 = omega arith in
+    rw e (past_blanks line from n (omega arith) (λ k l. q k (omega arith)) ∙ past_blank line (from + n) (omega arith) (q n (omega arith)))
+
+pub skipped : (line : List ℕ) (from : ℕ) → from ≤ length line → {n : ℕ} → n ≡ unwrap_or (position LETTER (rest_from line from)) (length (rest_from line from)) → Skipped line from (from + n)
+skipped line from inside {n} said =
+    let e : n ≡ position_or_len LETTER (drop from line) = rw (rest_of line from, first_or_end LETTER (drop from line)) at said in
+    let rest : length (drop from line) ≡ length line - from = length-drop from line in
+    let few : n ≤ length (drop from line) = rw e (prefix_len-le-length _ (drop from line)) in
+    record {
+      onward = omega arith;
+      inside = omega arith;
+      same = past_blanks line from n (omega arith) (λ k l. rw get_or-drop at (is_blank (get_or (drop from line) k 0) (fails_before_first LETTER (drop from line) k 0 (omega arith))));
+      none = λ h q. is_letter (get_or (drop from line) n 0) (rw (← e) at (passes_at_first LETTER (drop from line) 0 (omega arith))) (rw get_or-drop q);
+    }
+
+-- so many letters more of a word
+past_letters : (line : List ℕ) (start n : ℕ) → start + 1 + n ≤ length line → ((k : ℕ) → k < n → get_or line (start + 1 + k) 0 ≡ BLANK → ⊥) → (get_or line start 0 ≡ BLANK → ⊥)
+    → words (drop start line) ≡ words_after (part line start (start + 1 + n)) (drop (start + 1 + n) line)
+past_letters line start zero h q b = rw add-zero (first_letter line start (omega arith) b)
+past_letters line start (suc n) h q b =
+    let e : start + 1 + suc n ≡ start + 1 + n + 1 = omega arith in
+    rw e (past_letters line start n (omega arith) (λ k l. q k (omega arith)) b ∙ past_letter line start (start + 1 + n) (omega arith) (omega arith) (q n (omega arith)))
+
+pub spanned : (line : List ℕ) (start : ℕ) → start < length line → {n : ℕ} → n ≡ unwrap_or (position (λ b. eqb b BLANK) (rest_from line (start + 1))) (length (rest_from line (start + 1))) → Spans line start (start + 1 + n)
+spanned line start inside {n} said =
+    let e : n ≡ position_or_len (λ b. eqb b BLANK) (drop (start + 1) line) = rw (rest_of line (start + 1), first_or_end (λ b. eqb b BLANK) (drop (start + 1) line)) at said in
+    let rest : length (drop (start + 1) line) ≡ length line - (start + 1) = length-drop (start + 1) line in
+    let few : n ≤ length (drop (start + 1) line) = rw e (prefix_len-le-length _ (drop (start + 1) line)) in
+    spans line start (start + 1 + n) (omega arith) (omega arith)
+    (λ h. eqb-true _ _ (rw (get_or-drop, ← e) at (passes_at_first (λ b. eqb b BLANK) (drop (start + 1) line) 0 (omega arith))))
+    (past_letters line start n (omega arith) (λ k l q. not_blank (get_or (drop (start + 1) line) k 0) (fails_before_first (λ b. eqb b BLANK) (drop (start + 1) line) k 0 (omega arith)) (rw get_or-drop q)))

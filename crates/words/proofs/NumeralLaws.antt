@@ -1,9 +1,9 @@
 -- Laws of a word read as a number. Assumes nothing.
-use Rattle.std.specs.Prelude.{◌≡◌, ◌&&◌, ◌∷◌, ◌+◌, ◌*◌, ◌-◌, ◌/◌, ◌≤◌, ◌<◌}
+use Rattle.std.specs.Prelude.{◌≡◌, ◌&&◌, ◌∷◌, ◌+◌, ◌*◌, ◌-◌, ◌/◌, ◌≤◌, ◌<◌, Option, None, Some}
 use Rattle.kit.specs.Names.{refl, Bool, true, false, cond, List, [], ℕ, suc, length, get_or, drop, leb, ltb, drop-cons, drop-length, arith, add-one}
+use Rattle.std.proofs.Common.{inl, inr}
 use Rattle.kit.specs.Names.{le-div_iff_mul-le, div-lt_iff_lt-mul, le-leb, leb-true, lt-leb, lt-ltb}
-use Rattle.words.specs.declared.number.Number.{Number}
-use Rattle.words.specs.declared.number.Number.TheVariants.{Not, Value}
+use Rattle.std.specs.Char.{IsNotAsciiDigit}
 use Rattle.words.specs.Numeral.{all_digits, decimal, is_numeral, numeral}
 
 -- ---- what a number that was read says
@@ -17,20 +17,20 @@ in_limit limit w e =
     let h = both (all_digits w) (ltb 0 (length w) && leb (decimal 0 w) limit) e in
     leb-true (decimal 0 w) limit (both (ltb 0 (length w)) (leb (decimal 0 w) limit) h.1).1
 
-abbrev Says : ℕ → List ℕ → Number → Type 0
-Says limit w Not = is_numeral limit w ≡ false
-Says limit w (Value n) = (is_numeral limit w ≡ true) × (n ≡ decimal 0 w)
+abbrev Says : ℕ → List ℕ → Option ℕ → Type 0
+Says limit w None = is_numeral limit w ≡ false
+Says limit w (Some n) = (is_numeral limit w ≡ true) × (n ≡ decimal 0 w)
 
-pub says : (limit : ℕ) (w : List ℕ) {y : Number} → y ≡ numeral limit w → Says limit w y
+pub says : (limit : ℕ) (w : List ℕ) {y : Option ℕ} → y ≡ numeral limit w → Says limit w y
 says limit w e = rw e (go (is_numeral limit w) refl)
   where
-    go : (b : Bool) → is_numeral limit w ≡ b → Says limit w (cond b (Value (decimal 0 w)) Not)
+    go : (b : Bool) → is_numeral limit w ≡ b → Says limit w (cond b (Some (decimal 0 w)) None)
     go true q = (q, refl)
     go false q = q
 
 -- ---- reading, digit by digit
 
-pub read_empty : (w : List ℕ) (limit : ℕ) → length w ≡ 0 → Not ≡ numeral limit w
+pub read_empty : (w : List ℕ) (limit : ℕ) → length w ≡ 0 → None ≡ numeral limit w
 unfolding all_digits
 read_empty [] limit e = refl
 read_empty (b ∷ bs) limit e = absurd (omega arith)
@@ -57,7 +57,7 @@ pub record Taken (w : List ℕ) (n i : ℕ) : Type 0 where
   pub value : decimal 0 w ≡ decimal n (drop i w)
 
 module _ {w : List ℕ} {n i : ℕ} (limit : ℕ) (r : Taken w n i) where
-  pub read_end : 0 < length w → i ≡ length w → n ≤ limit → Value n ≡ numeral limit w
+  pub read_end : 0 < length w → i ≡ length w → n ≤ limit → Some n ≡ numeral limit w
   unfolding all_digits decimal
   read_end some e h =
       let all : all_digits w ≡ true = rw (r.digits, e, drop-length w) in
@@ -68,13 +68,17 @@ module _ {w : List ℕ} {n i : ℕ} (limit : ℕ) (r : Taken w n i) where
     abbrev byte : ℕ
     byte = get_or w i 0
 
-    pub read_low : byte < 48 → Not ≡ numeral limit w
+    read_low : byte < 48 → None ≡ numeral limit w
     unfolding all_digits
     read_low h = rw (r.digits, drop-cons w i 0 lt, lt-leb 48 byte h)
 
-    pub read_high : 57 < byte → Not ≡ numeral limit w
+    read_high : 57 < byte → None ≡ numeral limit w
     unfolding all_digits
     read_high h = rw (r.digits, drop-cons w i 0 lt, le-leb 48 byte (omega arith), lt-leb byte 57 h)
+
+    -- a byte that is no digit
+    pub read_other : IsNotAsciiDigit byte → None ≡ numeral limit w
+    read_other e = elim e [ inl h ↦ read_low h | inr h ↦ read_high h ]
 
     next : decimal 0 w ≡ decimal (n * 10 + (byte - 48)) (drop (suc i) w)
     unfolding decimal
@@ -85,7 +89,7 @@ module _ {w : List ℕ} {n i : ℕ} (limit : ℕ) (r : Taken w n i) where
       unfolding all_digits
       read_more = record { digits = rw (add-one, r.digits, drop-cons w i 0 lt, le-leb 48 byte low, le-leb byte 57 high); value = rw add-one next }
 
-      pub read_past : 9 ≤ limit → (limit - (byte - 48)) / 10 < n → Not ≡ numeral limit w
+      pub read_past : 9 ≤ limit → (limit - (byte - 48)) / 10 < n → None ≡ numeral limit w
       read_past nine q =
           let more = past limit n (byte - 48) nine (omega arith) q in
           let least = grows (n * 10 + (byte - 48)) (drop (suc i) w) in

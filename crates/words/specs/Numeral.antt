@@ -1,8 +1,6 @@
 -- A word of digits read as a number, as CALLS.md has it: decimal, digits alone, below its width.
-use Rattle.std.specs.Prelude.{◌&&◌, ◌∷◌, ◌+◌, ◌*◌, ◌-◌}
+use Rattle.std.specs.Prelude.{◌&&◌, ◌∷◌, ◌+◌, ◌*◌, ◌-◌, Option, None, Some}
 use Rattle.kit.specs.Names.{Bool, true, cond, List, [], ℕ, length, leb, ltb}
-use Rattle.words.specs.declared.number.Number.{Number}
-use Rattle.words.specs.declared.number.Number.TheVariants.{Not, Value}
 
 -- ASCII digits alone
 unfoldable pub all_digits : List ℕ → Bool
@@ -18,5 +16,5 @@ decimal n (b ∷ bs) = decimal (n * 10 + (b - 48)) bs
 abbrev pub is_numeral : ℕ → List ℕ → Bool
 is_numeral limit w = all_digits w && (ltb 0 (length w) && leb (decimal 0 w) limit)
 
-abbrev pub numeral : ℕ → List ℕ → Number
-numeral limit w = cond (is_numeral limit w) (Value (decimal 0 w)) Not
+abbrev pub numeral : ℕ → List ℕ → Option ℕ
+numeral limit w = cond (is_numeral limit w) (Some (decimal 0 w)) None

@@ -1,38 +1,26 @@
 ghost use Rattle.std.specs.Prelude.{◌≡◌, ◌≤◌};
 ghost use Rattle.words.specs.Numeral.{numeral};
 
-// What a word says, read as a number.
-#[derive(Clone, Copy)]
-pub enum Number {
-    Not,
-    Value(u64),
-}
-
 // A word of digits alone whose value is at most the limit. Zeros in front are allowed.
+// The limit's own clause is for `limit - d`; a limit under 9 is asked for nowhere.
 // Each digit is tested before it is taken in, so that no word, however long, wraps.
-pub fn read(word: &[u8], limit: u64) -> Number
+pub fn read(word: &[u8], limit: u64) -> Option<u64>
     requires { 9 ≤ limit }
     ensures { result ≡ numeral limit word.now }
 {
-    if word.len() == 0 {
-        return Number::Not;
+    if word.is_empty() {
+        return None;
     }
     let mut n: u64 = 0;
-    let mut i = 0;
-    while i < word.len() {
-        let byte = word[i];
-        if byte < b'0' {
-            return Number::Not;
+    for &byte in word {
+        if !byte.is_ascii_digit() {
+            return None;
         }
-        if byte > b'9' {
-            return Number::Not;
-        }
-        let d = (byte - b'0') as u64;
+        let d = u64::from(byte - b'0');
         if n > (limit - d) / 10 {
-            return Number::Not;
+            return None;
         }
         n = n * 10 + d;
-        i += 1;
     }
-    Number::Value(n)
+    Some(n)
 }

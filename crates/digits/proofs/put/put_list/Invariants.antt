@@ -1,17 +1,15 @@
 -- What stands so far is the numbers so far.
-use Rattle.std.specs.Prelude.{◌+◌, ◌*◌, ◌-◌, ◌≤◌}
-use Rattle.kit.specs.Names.{length, take}
-use Rattle.digits.specs.Printed.{listed, Printed}
+use Rattle.std.specs.Prelude.{◌+◌, ◌*◌, ◌≤◌}
+use Rattle.kit.specs.Names.{take}
+use Rattle.digits.specs.Printed.{listed}
+use Rattle.digits.specs.Page.{SamePage, Prints}
 use Rattle.digits.proofs.put.put_list.Given as goal
 
-abbrev pub invariant-loop-i : goal.invariant-loop-i
-invariant-loop-i l =
+abbrev pub invariant-loop-n : goal.invariant-loop-n
+invariant-loop-n l =
     record {
-      inside : l.i ≤ length l.numbers;
-      onward : l.at ≤ l.end;
-      enough : l.end ≤ l.at + 21 * l.i;
-      printed : Printed l.fn.out l.out l.at (listed (take l.i l.numbers)) l.end;
+      same_page : SamePage l.fn.page l.page;
+      onward : l.fn.page.at ≤ l.page.at;
+      enough : l.page.at ≤ l.fn.page.at + 21 * l.n-index;
+      printed : Prints l.fn.page l.page (listed (take l.n-index l.numbers));
     }
-
-abbrev pub decreases-loop-i : goal.decreases-loop-i
-decreases-loop-i l = length l.numbers - l.i

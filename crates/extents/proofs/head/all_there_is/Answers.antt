@@ -2,4 +2,4 @@
 use Rattle.extents.proofs.head.all_there_is.Goals as goal
 
 pub returns : goal.returns
-returns c = rw (c.most_rows-count.ensures c.args.log, c.most_entries-used.ensures)
+returns c = rw (c.most_rows.ensures c.args.lent.log, c.most_entries.ensures)

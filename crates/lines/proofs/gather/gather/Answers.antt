@@ -1,22 +1,15 @@
 -- One byte more is gathered, or the line ends. Assumes nothing.
-use Rattle.std.specs.Prelude.{◌+◌}
+use Rattle.std.specs.Prelude.{◌≡◌, ◌+◌}
 use Rattle.kit.specs.Names.{ap, ◌∙◌, take, drop, arith}
 use Rattle.lines.specs.Lines.{Line, Reached, gathering}
-use Rattle.lines.proofs.LineLaws.{stopped_at_count, stopped_at_end, fed, one_byte}
+use Rattle.lines.proofs.LineLaws.{all_read, fed, one_byte}
 use Rattle.lines.proofs.gather.gather.Goals as goal
-
-pub returns-then-i-input : goal.returns-then-i-input
-returns-then-i-input c =
-    let a = c.args in
-    let l = c.loop-i in
-    c.gathered_at.ensures l.line ∙ stopped_at_end a.count a.input.now l.i l.line l.kept.n l.kept.overlong (omega arith) ∙ l.invariant
 
 pub returns-then-byte-eq10 : goal.returns-then-byte-eq10
 returns-then-byte-eq10 c =
     let a = c.args in
     let l = c.loop-i in
-    c.gathered_at-then-byte-eq10.ensures l.line
-    ∙ fed a.count a.input.now l.i l.line l.kept.n l.kept.overlong (omega arith) (omega arith) c.if-byte-eq10.true
+    fed a.count a.input.now l.i l.line l.kept.n l.kept.overlong (omega arith) (omega arith) c.if-byte-eq10.true
     ∙ l.invariant
 
 pub loop-i-preserved : goal.loop-i-preserved
@@ -31,4 +24,5 @@ pub returns : goal.returns
 returns c =
     let a = c.args in
     let l = c.loop-i in
-    c.gathered_at-2.ensures l.line ∙ stopped_at_count a.count a.input.now l.i l.line l.kept.n l.kept.overlong (omega arith) ∙ l.invariant
+    let e : c.max-end.result ≡ l.i = omega arith in
+    rw e (all_read a.count a.input.now l.i l.line l.kept.n l.kept.overlong (omega arith) ∙ l.invariant)

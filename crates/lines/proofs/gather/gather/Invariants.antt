@@ -1,5 +1,5 @@
 -- What is gathered from here on is what was to be gathered.
-use Rattle.std.specs.Prelude.{◌≡◌, ◌-◌}
+use Rattle.std.specs.Prelude.{◌≡◌}
 use Rattle.kit.specs.Names.{take, drop}
 use Rattle.lines.specs.Lines.{line, gathering}
 use Rattle.lines.proofs.gather.gather.Given as goal
@@ -7,7 +7,4 @@ use Rattle.lines.proofs.gather.gather.Given as goal
 abbrev pub invariant-loop-i : goal.invariant-loop-i
 invariant-loop-i l =
     gathering l.i (line l.line l.kept.n l.kept.overlong) (drop l.i (take l.count l.input))
-    ≡ gathering l.from (line l.fn.line l.n l.overlong) (drop l.from (take l.count l.input))
-
-abbrev pub decreases-loop-i : goal.decreases-loop-i
-decreases-loop-i l = l.count - l.i
+    ≡ gathering l.from (line l.fn.line l.fn.kept.n l.fn.kept.overlong) (drop l.from (take l.count l.input))

@@ -1,11 +1,10 @@
 -- A call is carried out on what is lent.
-use Rattle.rules.specs.Rules.{table_lent}
+use Rattle.rules.specs.Rules.{table_in}
 use Rattle.damage.specs.Commands.{changed}
 use Rattle.damage.proofs.CommandLaws.{told}
 use Rattle.memory.proofs.change.change.Goals as goal
 
-pub returns-in-Call : goal.returns-in-Call
+pub returns-in-Call-clause-value : goal.returns-in-Call-clause-value
 unfolding changed
-returns-in-Call c =
-    let a = c.args in
-    told a.lengths (table_lent a.parents.now a.crowns.now a.amounts.now a.log.now a.state) c.in-Call.is c.call_lent.ensures
+returns-in-Call-clause-value c =
+    told c.args.lengths (table_in c.args.lent.now c.args.state) c.in-Call.is c.call_lent.ensures.value

@@ -1,12 +1,17 @@
 -- The reply that is printed is that of the line's command. Assumes nothing.
-use Rattle.rules.specs.Rules.{rows_lent, table_lent}
-use Rattle.meter.proofs.TurnLaws.{answered}
+use Rattle.rules.specs.Rules.{rows_in, log_in, table_in}
+use Rattle.kit.specs.Names.{rules}
+use Rattle.meter.proofs.TurnLaws.{answered, moved}
 use Rattle.meter.proofs.turn.answer.Goals as goal
 
-pub returns : goal.returns
-returns c =
+pub returns-clause-value : goal.returns-clause-value
+returns-clause-value c =
     let a = c.args in
-    let n = c.change-changed.new in
-    answered a.reading (table_lent a.parents.now a.crowns.now a.amounts.now a.log.now) a.line.now a.out.now
-    c.command_of-command.result c.change-changed.result (rows_lent n.parents n.crowns n.amounts) n.log c.say-at.new.out c.say-at.result
-    c.next_line.result c.command_of-command.ensures c.change-changed.ensures c.say-at.ensures c.next_line.ensures
+    let n = c.change-changed.new.lent in
+    let s = c.seen.ensures in
+    let said = rw (s.parents, s.crowns, s.amounts, s.log) at c.say.ensures.said in
+    let printed =
+    answered a.reading (table_in a.lent.now) a.line.now a.out.now
+    c.command_of-command.result c.change-changed.result (rows_in n) (log_in n) c.say.new.page.bytes.now c.say.new.page.at
+    c.next_line.result c.command_of-command.ensures c.change-changed.ensures.value said c.next_line.ensures in
+    moved c.next_line.result (table_in n) (search rules) printed

@@ -4,10 +4,10 @@ use Rattle.digits.proofs.PrintLaws.{saying}
 use Rattle.print.specs.Texts.{cell_text}
 use Rattle.print.proofs.print.put_cell.Goals as goal
 
-pub returns-in-Missing-clause-printed : goal.returns-in-Missing-clause-printed
+pub returns-in-None-clause-printed : goal.returns-in-None-clause-printed
 unfolding cell_text
-returns-in-Missing-clause-printed c = saying (ap cell_text (sym c.in-Missing.is)) c.put_bytes.ensures
+returns-in-None-clause-printed c = saying (ap cell_text (sym c.in-None.is)) c.put_bytes.ensures.printed
 
-pub returns-in-Number-clause-printed : goal.returns-in-Number-clause-printed
+pub returns-in-Some-clause-printed : goal.returns-in-Some-clause-printed
 unfolding cell_text
-returns-in-Number-clause-printed c = saying (ap cell_text (sym c.in-Number.is)) c.put_next.ensures.printed
+returns-in-Some-clause-printed c = saying (ap cell_text (sym c.in-Some.is)) c.put_next.ensures.printed

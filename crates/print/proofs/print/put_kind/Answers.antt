@@ -7,4 +7,4 @@ use Rattle.print.proofs.print.put_kind.Goals as goal
 pub returns-clause-printed : goal.returns-clause-printed
 unfolding cells
 returns-clause-printed c =
-    saying (simp append-nil) (then c.put_bar-first.ensures.printed (then c.put_cell-second.ensures.printed c.put_cell.ensures.printed))
+    saying (simp append-nil) (then c.put_bar.ensures.printed (then c.put_cell.ensures.printed c.put_cell-2.ensures.printed))

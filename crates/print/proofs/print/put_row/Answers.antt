@@ -7,5 +7,5 @@ use Rattle.print.proofs.print.put_row.Goals as goal
 pub returns-clause-printed : goal.returns-clause-printed
 unfolding cells
 returns-clause-printed c =
-    let last = then c.put_cell-fourth.ensures.printed c.put_cell.ensures.printed in
-    saying (simp append-nil) (then c.put_cell-second.ensures.printed (then c.put_cell-third.ensures.printed last))
+    let last = then c.put_cell-3.ensures.printed c.put_cell-4.ensures.printed in
+    saying (simp append-nil) (then c.put_cell.ensures.printed (then c.put_cell-2.ensures.printed last))

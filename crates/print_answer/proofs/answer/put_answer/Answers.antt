@@ -9,4 +9,4 @@ pub returns-clause-printed : goal.returns-clause-printed
 unfolding answer_text
 returns-clause-printed c =
     let named = ap (λ (l : List ℕ). spell (get_or l 0 0) ++ listed (take 8 (drop 1 l))) c.answer_numbers-numbers.ensures in
-    saying named (then c.put_number-second.ensures.printed c.put_list.ensures.printed)
+    saying named (then c.put_number.ensures.printed c.put_list.ensures.printed)

@@ -8,5 +8,5 @@ returns c =
     let a = c.args in
     let g = c.gather-got.result in
     let b = c.gather-got.new.line in
-    gathered a.reading a.line.now a.input.now (reached (line b g.n g.overlong) g.next g.ended) c.ends.result
-    c.line_number.result c.gather-got.ensures (c.ends.ensures b) c.line_number.ensures
+    gathered a.reading a.line.now a.input.now (reached (line b g.kept.n g.kept.overlong) g.next g.ended) c.ends-ended.result
+    c.line_number.result c.gather-got.ensures (c.ends-ended.ensures b) c.line_number.ensures

@@ -1,8 +1,7 @@
 -- The answer, the entries that follow it, and the line feed. Assumes nothing.
-use Rattle.show.proofs.PieceLaws.{piece, saying, then}
+use Rattle.show.proofs.PieceLaws.{piece, then}
 use Rattle.replies.proofs.written.answered.Goals as goal
 
-pub returns : goal.returns
-returns c =
-    then (piece c.room-start.ensures.value c.put_answer-middle.ensures.printed)
-    (then (saying (c.onward_of-more.ensures c.args.log.now) c.entries_since-end.ensures) c.word.ensures)
+pub returns-clause-said : goal.returns-clause-said
+returns-clause-said c =
+    then (piece c.room.ensures.bytes c.room.ensures.place c.put_answer.ensures.printed) (then c.put_onward.ensures.said c.word.ensures.said)

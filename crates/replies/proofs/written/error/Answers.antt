@@ -2,5 +2,5 @@
 use Rattle.show.proofs.PieceLaws.{piece}
 use Rattle.replies.proofs.written.error.Goals as goal
 
-pub returns : goal.returns
-returns c = piece c.room-start.ensures.value c.put_error.ensures.printed
+pub returns-clause-said : goal.returns-clause-said
+returns-clause-said c = piece c.room.ensures.bytes c.room.ensures.place c.put_error.ensures.printed

@@ -1,55 +1,41 @@
 -- Each reply's line is printed. Assumes nothing.
-use Rattle.rules.specs.Rules.{table_lent}
+use Rattle.rules.specs.Rules.{table_seen}
 use Rattle.show.proofs.PieceLaws.{nothing, saying}
 use Rattle.say.specs.Reply.{reply_pieces}
 use Rattle.say.proofs.SayLaws.{replied, live_said}
 use Rattle.say.proofs.say.put_reply.Goals as goal
 
-pub returns-in-Silent : goal.returns-in-Silent
+pub returns-in-Silent-clause-said : goal.returns-in-Silent-clause-said
 unfolding reply_pieces
-returns-in-Silent c =
-    let a = c.args in
-    replied (table_lent a.parents.now a.crowns.now a.amounts.now a.log.now a.state) a.all a.line c.in-Silent.is nothing
+returns-in-Silent-clause-said c = let a = c.args in replied (table_seen a.seen a.state) a.all a.line c.in-Silent.is nothing
 
-pub returns-in-Error : goal.returns-in-Error
+pub returns-in-Error-clause-said : goal.returns-in-Error-clause-said
 unfolding reply_pieces
-returns-in-Error c =
-    let a = c.args in
-    replied (table_lent a.parents.now a.crowns.now a.amounts.now a.log.now a.state) a.all a.line c.in-Error.is c.error.ensures
+returns-in-Error-clause-said c = let a = c.args in replied (table_seen a.seen a.state) a.all a.line c.in-Error.is c.error.ensures.said
 
-pub returns-in-Ok : goal.returns-in-Ok
+pub returns-in-Ok-clause-said : goal.returns-in-Ok-clause-said
 unfolding reply_pieces
-returns-in-Ok c =
-    let a = c.args in
-    replied (table_lent a.parents.now a.crowns.now a.amounts.now a.log.now a.state) a.all a.line c.in-Ok.is c.word.ensures
+returns-in-Ok-clause-said c = let a = c.args in replied (table_seen a.seen a.state) a.all a.line c.in-Ok.is c.word.ensures.said
 
-pub returns-in-Table : goal.returns-in-Table
+pub returns-in-Table-clause-said : goal.returns-in-Table-clause-said
 unfolding reply_pieces
-returns-in-Table c =
-    let a = c.args in
-    replied (table_lent a.parents.now a.crowns.now a.amounts.now a.log.now a.state) a.all a.line c.in-Table.is c.word-in-Table.ensures
+returns-in-Table-clause-said c = let a = c.args in replied (table_seen a.seen a.state) a.all a.line c.in-Table.is c.word-in-Table.ensures.said
 
-pub returns-in-Answer : goal.returns-in-Answer
+pub returns-in-Answer-clause-said : goal.returns-in-Answer-clause-said
 unfolding reply_pieces
-returns-in-Answer c =
-    let a = c.args in
-    replied (table_lent a.parents.now a.crowns.now a.amounts.now a.log.now a.state) a.all a.line c.in-Answer.is c.answered.ensures
+returns-in-Answer-clause-said c = let a = c.args in replied (table_seen a.seen a.state) a.all a.line c.in-Answer.is c.answered.ensures.said
 
-pub returns-in-Row : goal.returns-in-Row
+pub returns-in-Row-clause-said : goal.returns-in-Row-clause-said
 unfolding reply_pieces
-returns-in-Row c =
-    let a = c.args in
-    replied (table_lent a.parents.now a.crowns.now a.amounts.now a.log.now a.state) a.all a.line c.in-Row.is c.row.ensures
+returns-in-Row-clause-said c = let a = c.args in replied (table_seen a.seen a.state) a.all a.line c.in-Row.is c.row.ensures.said
 
-pub returns-in-Live : goal.returns-in-Live
-returns-in-Live c =
+pub returns-in-Live-clause-said : goal.returns-in-Live-clause-said
+returns-in-Live-clause-said c =
     let a = c.args in
-    let t = table_lent a.parents.now a.crowns.now a.amounts.now a.log.now a.state in
-    let live = live_said t a.all c.in_use-head.result a.line c.in_use-head.ensures in
-    replied t a.all a.line c.in-Live.is (saying live c.shown.ensures)
+    let t = table_seen a.seen a.state in
+    let live = live_said t a.all c.in_use.result a.line c.in_use.ensures in
+    replied t a.all a.line c.in-Live.is (saying live c.shown.ensures.said)
 
-pub returns-in-Dump : goal.returns-in-Dump
+pub returns-in-Dump-clause-said : goal.returns-in-Dump-clause-said
 unfolding reply_pieces
-returns-in-Dump c =
-    let a = c.args in
-    replied (table_lent a.parents.now a.crowns.now a.amounts.now a.log.now a.state) a.all a.line c.in-Dump.is c.shown-in-Dump.ensures
+returns-in-Dump-clause-said c = let a = c.args in replied (table_seen a.seen a.state) a.all a.line c.in-Dump.is c.shown-in-Dump.ensures.said

@@ -1,17 +1,8 @@
 -- So far the first `i` entries are printed.
-use Rattle.std.specs.Prelude.{◌≡◌, ◌-◌, ◌≤◌}
-use Rattle.kit.specs.Names.{length}
-use Rattle.show.specs.Pieces.{Said}
+use Rattle.digits.specs.Page.{SamePage}
+use Rattle.show.specs.Pieces.{Says}
 use Rattle.show.specs.Shown.{each, entry_pieces}
 use Rattle.show.proofs.show.entries.Given as goal
 
 abbrev pub invariant-loop-i : goal.invariant-loop-i
-invariant-loop-i l =
-    record {
-      size : length l.out ≡ length l.fn.out;
-      inside : l.i ≤ l.n;
-      said : Said l.fn.out l.out l.at (each l.i (entry_pieces l.log)) l.end;
-    }
-
-abbrev pub decreases-loop-i : goal.decreases-loop-i
-decreases-loop-i l = l.n - l.i
+invariant-loop-i l = record { same_page : SamePage l.fn.page l.page; said : Says l.fn.page l.page (each l.i (entry_pieces l.log)) }

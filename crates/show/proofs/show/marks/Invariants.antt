@@ -1,18 +1,8 @@
--- So far the first `i` marks are printed.
-use Rattle.std.specs.Prelude.{◌≡◌, ◌-◌, ◌≤◌}
-use Rattle.kit.specs.Names.{length}
-use Rattle.show.specs.Pieces.{Said}
+-- So far the first marks are printed, as many as the loop has seen.
+use Rattle.digits.specs.Page.{SamePage}
+use Rattle.show.specs.Pieces.{Says}
 use Rattle.show.specs.Shown.{each, mark_pieces}
 use Rattle.show.proofs.show.marks.Given as goal
 
-abbrev pub invariant-loop-i : goal.invariant-loop-i
-invariant-loop-i l =
-    record {
-      size : length l.out ≡ length l.fn.out;
-      inside : l.i ≤ 32;
-      enough : l.i ≤ l.n;
-      said : Said l.fn.out l.out l.at (each l.i (mark_pieces l.state)) l.end;
-    }
-
-abbrev pub decreases-loop-i : goal.decreases-loop-i
-decreases-loop-i l = 32 - l.i
+abbrev pub invariant-loop-mark : goal.invariant-loop-mark
+invariant-loop-mark l = record { same_page : SamePage l.fn.page l.page; said : Says l.fn.page l.page (each l.mark-index (mark_pieces l.fn.state)) }

@@ -2,6 +2,7 @@
 use Rattle.show.proofs.PieceLaws.{piece, then}
 use Rattle.show.proofs.show.put_entry.Goals as goal
 
-pub returns : goal.returns
-returns c =
-    then (piece c.room-start.ensures.value c.put_kind-middle.ensures.printed) (piece c.room-next.ensures.value c.put_row.ensures.printed)
+pub returns-clause-said : goal.returns-clause-said
+returns-clause-said c =
+    then (piece c.room.ensures.bytes c.room.ensures.place c.put_kind.ensures.printed)
+    (piece c.room-2.ensures.bytes c.room-2.ensures.place c.put_row.ensures.printed)

@@ -1,18 +1,9 @@
 -- So far the first `i` rows are printed.
-use Rattle.std.specs.Prelude.{◌≡◌, ◌-◌, ◌≤◌}
-use Rattle.kit.specs.Names.{length}
-use Rattle.rules.specs.Rules.{rows_lent}
-use Rattle.show.specs.Pieces.{Said}
+use Rattle.digits.specs.Page.{SamePage}
+use Rattle.rules.specs.Rules.{rows_seen}
+use Rattle.show.specs.Pieces.{Says}
 use Rattle.show.specs.Shown.{each, row_pieces}
 use Rattle.show.proofs.show.rows.Given as goal
 
 abbrev pub invariant-loop-i : goal.invariant-loop-i
-invariant-loop-i l =
-    record {
-      size : length l.out ≡ length l.fn.out;
-      inside : l.i ≤ l.n;
-      said : Said l.fn.out l.out l.at (each l.i (row_pieces (rows_lent l.parents l.crowns l.amounts))) l.end;
-    }
-
-abbrev pub decreases-loop-i : goal.decreases-loop-i
-decreases-loop-i l = l.n - l.i
+invariant-loop-i l = record { same_page : SamePage l.fn.page l.page; said : Says l.fn.page l.page (each l.i (row_pieces (rows_seen l.seen))) }

@@ -1,9 +1,9 @@
--- So far the entries up to `i` are printed.
-use Rattle.std.specs.Prelude.{◌≡◌, ◌-◌, ◌≤◌}
-use Rattle.kit.specs.Names.{ℕ, length}
+-- So far the first `i` entries are printed.
+use Rattle.kit.specs.Names.{ℕ}
 use Rattle.rules.specs.Rules.{Log, viewed}
 use Rattle.extract.specs.Numbers.{lent_at}
-use Rattle.show.specs.Pieces.{Said}
+use Rattle.digits.specs.Page.{SamePage}
+use Rattle.show.specs.Pieces.{Says}
 use Rattle.show.specs.Shown.{Pieces, each, numbers_pieces}
 use Rattle.show.proofs.since.entries_since.Given as goal
 
@@ -11,13 +11,4 @@ abbrev pub seen : Log → ℕ → ℕ → ℕ → Pieces
 seen l from to i = numbers_pieces (lent_at (viewed l from to) i)
 
 abbrev pub invariant-loop-i : goal.invariant-loop-i
-invariant-loop-i l =
-    record {
-      size : length l.out ≡ length l.fn.out;
-      begun : l.from ≤ l.i;
-      inside : l.i - l.from ≤ l.to - l.from;
-      said : Said l.fn.out l.out l.at (each (l.i - l.from) (seen l.log l.from l.to)) l.end;
-    }
-
-abbrev pub decreases-loop-i : goal.decreases-loop-i
-decreases-loop-i l = l.to - l.i
+invariant-loop-i l = record { same_page : SamePage l.fn.page l.page; said : Says l.fn.page l.page (each l.i (seen l.log l.from l.to)) }

@@ -1,18 +1,18 @@
 -- The word that stands where the loop is is this one, or one more was passed. Assumes nothing.
 use Rattle.kit.specs.Names.{ap, ◌∙◌, arith}
 use Rattle.words.specs.Line.{place_in}
-use Rattle.words.proofs.LineLaws.{next_word, no_words, this_word, told_same}
+use Rattle.words.proofs.LineLaws.{next_word, no_words, this_word, told_equal}
 use Rattle.words.proofs.words.place_of.Goals as goal
 
-pub returns-then-same : goal.returns-then-same
-returns-then-same c =
-    this_word _ _ _ _ c.loop-at.invariant.so_far (c.word_end-end.ensures.first (c.loop-at.invariant.letter (omega arith))) (told_same c.same.ensures ∙ c.if-same.true)
+pub returns-then-eq : goal.returns-then-eq
+returns-then-eq c =
+    this_word _ _ _ _ c.loop-at.invariant.so_far (c.word_end-end.ensures.first (c.loop-at.invariant.letter (omega arith))) (told_equal _ _ c.eq.ensures ∙ c.if-eq.true)
 
 pub loop-at-preserved : goal.loop-at-preserved
 loop-at-preserved c =
     let skip = c.skip_blanks-at-in-loop-at.ensures in
     let split = c.word_end-end.ensures.first (c.loop-at.invariant.letter (omega arith)) in
-    let more = next_word _ _ _ c.loop-at.passed c.loop-at.invariant.so_far split (told_same c.same.ensures ∙ c.if-same.false) in
+    let more = next_word _ _ _ c.loop-at.passed c.loop-at.invariant.so_far split (told_equal _ _ c.eq.ensures ∙ c.if-eq.false) in
     record {
       few = omega arith;
       inside = skip.inside;
