@@ -17,17 +17,11 @@ fn main(rt: HostRuntime) -> ExitCode {
 // A journal of 16 MiB takes memory of that size. Where there is less, smaller journals are taken.
 fn append(rt: &HostRuntime) -> Result<ExitCode> {
     let words = program_words(rt)?;
-    let mut buffer = match large(rt.alloc()) {
-        Ok(buffer) => buffer,
-        Err(AllocError) => small(rt.alloc())?,
-    };
+    let alloc = rt.alloc();
+    let mut buffer = zeros(alloc, 16777216).or_else(|_| zeros(alloc, 1048576))?;
     append_verb(rt, &words, &mut buffer)
 }
 
-fn large(alloc: Global) -> Result<Vec<u8>, AllocError> {
-    vec![in alloc; 0; 16777216]
-}
-
-fn small(alloc: Global) -> Result<Vec<u8>, AllocError> {
-    vec![in alloc; 0; 1048576]
+fn zeros(alloc: Global, length: usize) -> Result<Vec<u8>, AllocError> {
+    vec![in alloc; 0; length]
 }

@@ -1,4 +1,4 @@
-// Files read whole, and written whole or not at all. A path is bytes, and the system takes it as text.
+// Files read whole, and written whole or not at all.
 #![tactic(auto)]
 
 pub mod name;

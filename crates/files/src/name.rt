@@ -1,18 +1,30 @@
+ghost use Rattle.std.specs.Prelude.{◌≡◌, ◌++◌, IfOk};
+
+use paths::path::path_with;
 use std::io;
 use std::io::{Error, ErrorKind};
 
-// A path as the system takes it.
-pub fn name_of(path: &[u8]) -> io::Result<&str> {
-    match std::str::from_utf8(path) {
+// The space is the caller's array, and no `String`: an allocation could fail where nothing did.
+// A name beside a file's, with this suffix. A path that the system takes has fewer than 4,096 bytes. A longer one doesn't fit, and then no
+// file has that name.
+pub fn name_beside<'a>(path: &str, suffix: &str, space: &'a mut [u8; 4160]) -> io::Result<&'a str>
+    ensures { IfOk result (λ name. name.now ≡ path.now ++ suffix.now) }
+{
+    let Some(beside) = path_with(path.as_bytes(), suffix.as_bytes(), space) else {
+        return Err(Error::from(ErrorKind::InvalidFilename));
+    };
+    match std::str::from_utf8(beside) {
         Ok(name) => Ok(name),
-        Err(_) => Err(Error::new(ErrorKind::InvalidInput, "a path that is not text")),
+        Err(_) => Err(Error::from(ErrorKind::InvalidFilename)),
     }
 }
 
 // Whether the error says that there is no such file. Where its name is too long there is none.
 pub fn is_absent(error: &Error) -> bool {
-    let kind = error.kind();
-    kind == ErrorKind::NotFound || kind == ErrorKind::InvalidFilename
+    matches!(
+        error.kind(),
+        ErrorKind::NotFound | ErrorKind::InvalidFilename
+    )
 }
 
 // Whether it says that the file goes on past the memory lent. The system's own error of that kind is another.

@@ -1,6 +1,5 @@
 ghost use Rattle.std.specs.Prelude.{◌≡◌, ◌≤◌, ◌+◌, length, IfOk, OnErr};
 
-use crate::name::name_of;
 use std::io::{Error, ErrorKind, Read};
 use std::rt::Files;
 use std::{fs, io};
@@ -11,8 +10,7 @@ fn read_some<F: Read>(file: &mut F, buffer: &mut [u8], from: usize) -> io::Resul
     ensures ok { IfOk result (λ count. from + count ≤ length buffer.new) }
     ensures err { OnErr result (length buffer.new ≡ length buffer.old) }
 {
-    let part = &mut buffer[from..];
-    file.read(part)
+    file.read(&mut buffer[from..])
 }
 
 // Reads until the buffer is full or the file ends. A file that can't be read on is an error, and not a shorter file: a journal that is
@@ -21,6 +19,7 @@ fn fill<F: Read>(file: &mut F, buffer: &mut [u8]) -> io::Result<usize>
     ensures ok { IfOk result (λ count. count ≤ length buffer.new) }
     ensures err { OnErr result (length buffer.new ≡ length buffer.old) }
 {
+    // How far one read goes is the file's to say, so no range has these places.
     let mut done = 0;
     while done < buffer.len() {
         let count = read_some(file, buffer, done)?;
@@ -33,20 +32,19 @@ fn fill<F: Read>(file: &mut F, buffer: &mut [u8]) -> io::Result<usize>
 }
 
 // The file's first bytes, as many as the buffer has room for, or all where it has fewer. Answers how many.
-pub fn read_front(rt: &impl Files, path: &[u8], buffer: &mut [u8]) -> io::Result<usize>
+pub fn read_front(rt: &impl Files, path: &str, buffer: &mut [u8]) -> io::Result<usize>
     ensures ok { IfOk result (λ count. count ≤ length buffer.new) }
     ensures err { OnErr result (length buffer.new ≡ length buffer.old) }
 {
-    let mut file = fs::open(rt, name_of(path)?)?;
-    fill(&mut file, buffer)
+    fill(&mut fs::open(rt, path)?, buffer)
 }
 
 // The whole file. One that goes on past the buffer's end is an error, `FileTooLarge`.
-pub fn read_file(rt: &impl Files, path: &[u8], buffer: &mut [u8]) -> io::Result<usize>
+pub fn read_file(rt: &impl Files, path: &str, buffer: &mut [u8]) -> io::Result<usize>
     ensures ok { IfOk result (λ count. count ≤ length buffer.new) }
     ensures err { OnErr result (length buffer.new ≡ length buffer.old) }
 {
-    let mut file = fs::open(rt, name_of(path)?)?;
+    let mut file = fs::open(rt, path)?;
     let count = fill(&mut file, buffer)?;
     at_end(&mut file)?;
     Ok(count)

@@ -1,5 +1,5 @@
-use crate::name::{is_absent, name_of};
-use paths::path::{directory_length, path_with};
+use crate::name::{is_absent, name_beside};
+use paths::path::directory;
 use std::fs::OpenFile;
 use std::io::Write;
 use std::rt::Files;
@@ -12,52 +12,40 @@ pub fn put_on_disk<F: Write + OpenFile>(file: &mut F, bytes: &[u8]) -> io::Resul
 }
 
 // Makes the file anew, on disk. Where that fails it is removed again.
-fn make_file(rt: &impl Files, name: &str, bytes: &[u8]) -> io::Result<()> {
-    let mut file = fs::create(rt, name)?;
+fn make_file(rt: &impl Files, path: &str, bytes: &[u8]) -> io::Result<()> {
+    let mut file = fs::create(rt, path)?;
     let done = put_on_disk(&mut file, bytes);
     if done.is_err() {
-        let _ = fs::remove_file(rt, name);
+        let _ = fs::remove_file(rt, path);
     }
     done
 }
 
-// Waits until the names in a directory are on disk.
-fn sync_names(rt: &impl Files, directory: &[u8]) -> io::Result<()> {
-    fs::open(rt, name_of(directory)?)?.sync_all()
-}
-
-// The same for the directory in which the file is.
-pub fn sync_directory(rt: &impl Files, path: &[u8]) -> io::Result<()> {
-    let length = directory_length(path);
-    if length == 0 {
-        return sync_names(rt, b".");
-    }
-    sync_names(rt, &path[..length])
+// Waits until the names in the directory in which the file is are on disk.
+pub fn sync_directory(rt: &impl Files, path: &str) -> io::Result<()> {
+    fs::open(rt, directory(path).unwrap_or("."))?.sync_all()
 }
 
 // Moves a file that is on disk to its name, in the same directory.
-fn take_name(rt: &impl Files, from: &str, path: &[u8]) -> io::Result<()> {
-    let moved = fs::rename(rt, from, name_of(path)?);
-    if moved.is_err() {
+fn take_name(rt: &impl Files, from: &str, path: &str) -> io::Result<()> {
+    if let Err(why) = fs::rename(rt, from, path) {
         let _ = fs::remove_file(rt, from);
-        return moved;
+        return Err(why);
     }
     sync_directory(rt, path)
 }
 
-// Makes the file, or another of its name anew, whole or not at all: it is written beside, then renamed. A path that the system takes has
-// fewer than 4,096 bytes, and the suffix has 11. A longer one doesn't fit, and the empty path in its place is no file's.
-pub fn write_whole(rt: &impl Files, path: &[u8], bytes: &[u8]) -> io::Result<()> {
-    let mut space = [0u8; 4160];
-    let length = path_with(path, b".unfinished", &mut space);
-    let beside = name_of(&space[..length])?;
+// Makes the file, or another of its name anew, whole or not at all: it is written beside, then renamed.
+pub fn write_whole(rt: &impl Files, path: &str, bytes: &[u8]) -> io::Result<()> {
+    let mut space = [0; 4160];
+    let beside = name_beside(path, ".unfinished", &mut space)?;
     make_file(rt, beside, bytes)?;
     take_name(rt, beside, path)
 }
 
 // Removes the file, if there is one.
-pub fn remove(rt: &impl Files, path: &[u8]) -> io::Result<()> {
-    match fs::remove_file(rt, name_of(path)?) {
+pub fn remove(rt: &impl Files, path: &str) -> io::Result<()> {
+    match fs::remove_file(rt, path) {
         Ok(()) => sync_directory(rt, path),
         Err(error) if is_absent(&error) => Ok(()),
         Err(error) => Err(error),

@@ -1,5 +1,4 @@
 use crate::mark::{make_mark, mark_path};
-use files::name::name_of;
 use files::write::{put_on_disk, remove, write_whole};
 use std::fs::{OpenFile, OpenOptions};
 use std::io::{Seek, SeekFrom, Write};
@@ -10,39 +9,32 @@ use std::{fs, io};
 // journal is as it was, or the segment is there whole (where only the last word of the disk is missing).
 pub fn add_segment(
     rt: &impl Files,
-    path: &[u8],
+    path: &str,
     existed: bool,
     old: usize,
     segment: &[u8],
 ) -> io::Result<()> {
+    let mut space = [0; 4160];
+    let mark = mark_path(path, &mut space)?;
     if !existed {
-        return begin(rt, path, segment);
+        // A mark that is left of an older journal of this name, since removed, is not about this one.
+        remove(rt, mark)?;
+        return write_whole(rt, path, segment);
     }
     let mut options = OpenOptions::new();
     options.read(true).write(true);
-    let mut file = options.open(rt, name_of(path)?)?;
-    extend(rt, &mut file, path, old, segment)
-}
-
-// Makes the journal. A mark that is left of an older one of this name, since removed, is not about this one.
-fn begin(rt: &impl Files, path: &[u8], segment: &[u8]) -> io::Result<()> {
-    let mut space = [0u8; 4160];
-    let end = mark_path(path, &mut space);
-    remove(rt, &space[..end])?;
-    write_whole(rt, path, segment)
+    let mut file = options.open(rt, path)?;
+    extend(rt, &mut file, mark, old, segment)
 }
 
 // Extends a journal: the mark, the segment, then the mark's end.
 fn extend<F: Write + Seek + OpenFile>(
     rt: &impl Files,
     file: &mut F,
-    path: &[u8],
+    mark: &str,
     old: usize,
     segment: &[u8],
 ) -> io::Result<()> {
-    let mut space = [0u8; 4160];
-    let end = mark_path(path, &mut space);
-    let mark = &space[..end];
     if let Err(why) = put_marked(rt, file, mark, old, segment) {
         let _ = take_back(rt, file, mark, old);
         return Err(why);
@@ -50,16 +42,17 @@ fn extend<F: Write + Seek + OpenFile>(
     remove(rt, mark)
 }
 
-// The mark, and then the segment.
+// The mark, and then the segment after the first `old` bytes, on disk.
 fn put_marked<F: Write + Seek + OpenFile>(
     rt: &impl Files,
     file: &mut F,
-    mark: &[u8],
+    mark: &str,
     old: usize,
     segment: &[u8],
 ) -> io::Result<()> {
     make_mark(rt, mark, old)?;
-    put_after(file, old, segment)
+    cut(file, old)?;
+    put_on_disk(file, segment)
 }
 
 // Cuts the file to its old length: what stands after it is of a segment that was never finished.
@@ -69,24 +62,14 @@ fn cut<F: Seek + OpenFile>(file: &mut F, old: usize) -> io::Result<()> {
     Ok(())
 }
 
-// The segment after the first `old` bytes, on disk.
-fn put_after<F: Write + Seek + OpenFile>(
-    file: &mut F,
-    old: usize,
-    segment: &[u8],
-) -> io::Result<()> {
-    cut(file, old)?;
-    put_on_disk(file, segment)
-}
-
 // After a failure: the file as it was, then no mark. Where it can't be cut the mark stays, and says the same.
 fn take_back<F: Seek + OpenFile>(
     rt: &impl Files,
     file: &mut F,
-    mark: &[u8],
+    mark: &str,
     old: usize,
 ) -> io::Result<()> {
     cut(file, old)?;
     file.sync_all()?;
-    fs::remove_file(rt, name_of(mark)?)
+    fs::remove_file(rt, mark)
 }

@@ -1,35 +1,24 @@
-ghost use Rattle.std.specs.Prelude.{◌≡◌, ◌++◌, ◌+◌, ◌≤◌, length, take};
-ghost use Rattle.io.specs.Counts.{IsPrefixLen};
+ghost use Rattle.std.specs.Prelude.{◌≡◌, ◌++◌, ◌+◌, ◌-◌, ◌≤◌, ◌↔◌, ◌<◌, ◌≢◌, ℕ, length, take, get_or, IsSome, IfSome, IfNone};
 
-use digits::put::put_bytes;
-
-// A path and a suffix, one after the other, at the buffer's start. Answers their length, or 0 where they don't fit. Whether that is too
-// long for a path is not asked here: who opens it says so.
-pub fn path_with(path: &[u8], suffix: &[u8], buffer: &mut [u8]) -> usize
-    ensures prefix_len { IsPrefixLen result buffer.new }
-    ensures buffer_after { length path.now + length suffix.now ≤ length buffer.old
-        → take result buffer.new ≡ path.now ++ suffix.now }
+// A path and a suffix, one after the other, at the buffer's start: nothing where they don't fit. Whether that is too long for a path is
+// not asked here: who opens it says so. Bytes and a buffer, and no text: docs/CONTRACTS.md names the function, so it asks no more.
+pub fn path_with<'a>(path: &[u8], suffix: &[u8], buffer: &'a mut [u8]) -> Option<&'a [u8]>
+    ensures fits { IsSome result ↔ (length path.now + length suffix.now ≤ length buffer.old) }
+    ensures value { IfSome result (λ whole. whole.now ≡ path.now ++ suffix.now) }
 {
-    if path.len() > buffer.len() {
-        return 0;
-    }
-    if suffix.len() > buffer.len() - path.len() {
-        return 0;
-    }
-    let middle = put_bytes(buffer, 0, path);
-    put_bytes(buffer, middle, suffix)
+    let whole = buffer.get_mut(..path.len() + suffix.len())?;
+    let (front, back) = whole.split_at_mut(path.len());
+    front.copy_from_slice(path);
+    back.copy_from_slice(suffix);
+    Some(whole)
 }
 
-// How many bytes of a path its directory has, with the slash: 0 where it has none.
-pub fn directory_length(path: &[u8]) -> usize
-    ensures { IsPrefixLen result path.now }
+// A path's directory, with the slash: nothing where it has none.
+pub fn directory(path: &str) -> Option<&str>
+    ensures prefix { IfSome result (λ front. front.now ≡ take (length front.now) path.now) }
+    ensures none { IfNone result ((i : ℕ) → i < length path.now → get_or path.now i 0 ≢ 47) }
+    ensures slash { IfSome result (λ front. get_or front.now (length front.now - 1) 0 ≡ 47) }
 {
-    let mut left = path.len();
-    while left > 0 {
-        if path[left - 1] == b'/' {
-            return left;
-        }
-        left -= 1;
-    }
-    left
+    let slash = path.rfind('/')?;
+    Some(&path[..=slash])
 }

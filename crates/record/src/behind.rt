@@ -1,133 +1,93 @@
 // A journal replayed, and a list recorded behind it.
-ghost use Rattle.std.specs.Prelude.{◌≤◌, length};
-ghost use Rattle.layout.specs.State.{Sized};
+ghost use Rattle.std.specs.Prelude.{◌≤◌, vec_len};
 
 use anyhow::{Context, Result};
-use files::name::name_of;
-use journal::known::Known;
+use journal::known::{Book, Known};
 use journal_append::bytes::lent;
-use record_answer::disk::{is_short, too_large};
-use record_answer::job::Shelf;
+use layout::state::LentState;
+use record_answer::desk::Desk;
+use record_answer::disk::is_short;
 use record_calls::calls::record_calls;
 use replaying::replay::replay;
+use rules::table::Lent;
 use std::fs;
 use std::process::ExitCode;
 use std::rt::Files;
+use storage::memory::Memory;
 use valid::valid::segments;
+use verb_journal::named::{Shelf, too_large};
 use verb_words::answer::end_with;
-
-// How many segments the journal has in the first `used` bytes.
-fn segments_by(bytes: &[u8], used: usize) -> usize
-    requires { used ≤ length bytes.now }
-{
-    segments(&bytes[0..used])
-}
-
-// A journal that is refused.
-fn refuse(rt: &impl Print, path: &[u8], no: u32, entry: usize, log: usize) -> Result<ExitCode> {
-    if is_short(no, 0, 0, log) {
-        return Err(too_large(path));
-    }
-    end_with(rt, no, entry as u64)
-}
 
 // Replays the journal's first `used` bytes into a fresh table in all of the memory, and then records CALLS.
 pub fn record_journal(
     rt: &(impl Files + Input + Print),
-    path: &[u8],
-    calls: &[u8],
-    shelf: Shelf,
+    calls: &str,
+    shelf: Shelf<'_>,
     used: usize,
-    parents: &mut [u32],
-    crowns: &mut [u32],
-    amounts: &mut [u64],
-    log: &mut [u32],
-    line: &mut [u8],
-    bytes: &mut [u8],
+    memory: &mut Memory,
 ) -> Result<ExitCode>
-    requires { used ≤ length bytes.old }
+    requires { used ≤ vec_len memory.old.journal }
 {
-    let mut numbers = [0u32; 67];
-    let mut serials = [0u64; 33];
-    let ended = replay(
-        &mut numbers,
-        &mut serials,
-        parents,
-        crowns,
-        amounts,
-        log,
-        &bytes[0..used],
-    );
+    let mut numbers = [0; 67];
+    let mut serials = [0; 33];
+    let mut state = LentState {
+        numbers: &mut numbers,
+        serials: &mut serials,
+    };
+    let mut table = Lent {
+        parents: &mut memory.parents,
+        crowns: &mut memory.crowns,
+        amounts: &mut memory.amounts,
+        log: &mut memory.log,
+    };
+    let ended = replay(&mut state, &mut table, &memory.journal[..used]);
     if ended.no != 0 {
-        return refuse(rt, path, ended.no, ended.entry, log.len());
+        return refuse(rt, shelf, ended.no, ended.entry, table.log.len());
     }
-    let head = ended.head;
     let known = Known {
         used,
-        segments: segments_by(bytes, used) as u64,
-        open: head.open,
+        segments: segments(&memory.journal[..used]) as u64,
+        open: ended.head.open,
         waiting: 0,
     };
-    let most = lent(used, shelf.room, bytes.len());
-    record_opened(
-        rt,
-        known,
+    let most = lent(used, shelf.room, memory.journal.len());
+    let mut desk = Desk {
+        state,
+        lent: table,
+        book: Book {
+            bytes: &mut memory.journal[..most],
+            known,
+        },
         shelf,
-        ended.entry as u64,
-        calls,
-        path,
-        &mut numbers,
-        &mut serials,
-        parents,
-        crowns,
-        amounts,
-        log,
-        &mut bytes[0..most],
-        line,
-    )
+    };
+    record_opened(rt, &mut desk, calls, ended.entry as u64, &mut memory.line)
+}
+
+// A journal that is refused.
+fn refuse(
+    rt: &impl Print,
+    shelf: Shelf<'_>,
+    no: u32,
+    entry: usize,
+    log: usize,
+) -> Result<ExitCode> {
+    if is_short(no, 0, 0, log) {
+        return Err(too_large(shelf.path));
+    }
+    end_with(rt, no, entry as u64)
 }
 
 // CALLS opened: `-` is standard input.
 fn record_opened(
     rt: &(impl Files + Input),
-    known: Known,
-    shelf: Shelf,
+    desk: &mut Desk<'_>,
+    calls: &str,
     entries: u64,
-    calls: &[u8],
-    path: &[u8],
-    numbers: &mut [u32],
-    serials: &mut [u64],
-    parents: &mut [u32],
-    crowns: &mut [u32],
-    amounts: &mut [u64],
-    log: &mut [u32],
-    journal: &mut [u8],
     line: &mut [u8],
-) -> Result<ExitCode>
-    requires { Sized numbers.old serials.old }
-{
-    if calls == b"-".as_slice() {
-        return record_calls(
-            rt,
-            known,
-            shelf,
-            entries,
-            &mut rt.reader(),
-            path,
-            numbers,
-            serials,
-            parents,
-            crowns,
-            amounts,
-            log,
-            journal,
-            line,
-        );
+) -> Result<ExitCode> {
+    if calls == "-" {
+        return record_calls(rt, desk, entries, &mut rt.reader(), line);
     }
-    let name = name_of(calls)?;
-    let mut file = fs::open(rt, name).context(name)?;
-    record_calls(
-        rt, known, shelf, entries, &mut file, path, numbers, serials, parents, crowns, amounts,
-        log, journal, line,
-    )
+    let mut file = fs::open(rt, calls).context(calls)?;
+    record_calls(rt, desk, entries, &mut file, line)
 }

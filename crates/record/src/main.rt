@@ -2,18 +2,31 @@
 // line for each of CALLS.
 #![tactic(auto)]
 
-use crate::storage::{large, small};
 use crate::verb::record_verb;
 use anyhow::Result;
-use std::alloc::AllocError;
 use std::process::ExitCode;
+use storage::memory::{Memory, Sizes};
 use verb_words::answer::ended;
 use verb_words::given::program_words;
 
 mod behind;
-mod found;
-mod storage;
 mod verb;
+
+// Document 01's limits, a journal of 16 MiB and a line of 1 MiB take some 48 MB.
+const LARGE: Sizes = Sizes {
+    rows: 65536,
+    entries: 1048576,
+    line: 1048576,
+    journal: 16777216,
+};
+
+// Where there is less, smaller journals, logs and lines are taken.
+const SMALL: Sizes = Sizes {
+    rows: 65536,
+    entries: 131072,
+    line: 65536,
+    journal: 1048576,
+};
 
 fn main(rt: HostRuntime) -> ExitCode {
     ended(&rt, record(&rt))
@@ -21,18 +34,7 @@ fn main(rt: HostRuntime) -> ExitCode {
 
 fn record(rt: &HostRuntime) -> Result<ExitCode> {
     let words = program_words(rt)?;
-    let mut memory = match large(rt.alloc()) {
-        Ok(memory) => memory,
-        Err(AllocError) => small(rt.alloc())?,
-    };
-    record_verb(
-        rt,
-        &words,
-        &mut memory.parents,
-        &mut memory.crowns,
-        &mut memory.amounts,
-        &mut memory.log,
-        &mut memory.line,
-        &mut memory.bytes,
-    )
+    let alloc = rt.alloc();
+    let mut memory = Memory::new(alloc, LARGE).or_else(|_| Memory::new(alloc, SMALL))?;
+    record_verb(rt, &words, &mut memory)
 }

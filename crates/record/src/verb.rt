@@ -1,65 +1,26 @@
 // The verb, over memory that is lent for the journal, for the table and for a line.
 use crate::behind::record_journal;
-use crate::found::found_journal;
 use anyhow::{Result, bail};
-use record_answer::job::Shelf;
 use std::process::ExitCode;
 use std::rt::Files;
-use verb_words::given::word_at;
+use storage::memory::Memory;
+use verb_journal::named::{Shelf, found_journal};
 use verb_words::verbs::append_words;
 
 // A verb that has its words, which are those of `append` with CALLS for ENTRIES.
 pub fn record_verb(
     rt: &(impl Files + Input + Print),
     words: &[String],
-    parents: &mut [u32],
-    crowns: &mut [u32],
-    amounts: &mut [u64],
-    log: &mut [u32],
-    line: &mut [u8],
-    bytes: &mut [u8],
+    memory: &mut Memory,
 ) -> Result<ExitCode> {
-    let asked = append_words(words);
-    if !asked.good {
+    let Some(asked) = append_words(words) else {
         bail!("usage: ./meter record JOURNAL CALLS [room N]");
-    }
-    let path = word_at(words, 1).as_bytes();
-    let calls = word_at(words, 2).as_bytes();
-    let room = asked.room as usize;
-    record_file(
-        rt, path, calls, room, parents, crowns, amounts, log, line, bytes,
-    )
-}
-
-// JOURNAL read.
-fn record_file(
-    rt: &(impl Files + Input + Print),
-    path: &[u8],
-    calls: &[u8],
-    room: usize,
-    parents: &mut [u32],
-    crowns: &mut [u32],
-    amounts: &mut [u64],
-    log: &mut [u32],
-    line: &mut [u8],
-    bytes: &mut [u8],
-) -> Result<ExitCode> {
-    let found = found_journal(rt, path, bytes)?;
-    let shelf = Shelf {
-        existed: found.existed,
-        room,
     };
-    record_journal(
-        rt,
-        path,
-        calls,
-        shelf,
-        found.length,
-        parents,
-        crowns,
-        amounts,
-        log,
-        line,
-        bytes,
-    )
+    let found = found_journal(rt, asked.journal, &mut memory.journal)?;
+    let shelf = Shelf {
+        path: asked.journal,
+        existed: found.is_some(),
+        room: asked.room,
+    };
+    record_journal(rt, asked.entries, shelf, found.unwrap_or(0), memory)
 }

@@ -1,50 +1,29 @@
-use anyhow::{Context, Error, Result};
-use files::name::name_of;
+use anyhow::{Context, Result};
+use journal::known::Book;
 use journal_file::add::add_segment;
 use rules::numbers::{ENTRY, LOG_FULL, MAX_ENTRIES, NO_ROOM};
 use std::rt::Files;
+use verb_journal::named::{Shelf, too_large};
 
-// A journal that has bytes has a file.
-fn is_there(existed: bool, old: usize) -> bool {
-    existed || old > 0
-}
-
-// That the journal is longer than the program has memory for.
-pub fn too_large(path: &[u8]) -> Error {
-    let why = Error::msg("larger than the program takes");
-    match name_of(path) {
-        Ok(name) => why.context(name),
-        Err(other) => Error::from(other),
-    }
-}
-
-// Where a segment was made behind the journal's first `old` bytes: puts it on disk.
-pub fn on_disk(
-    rt: &impl Files,
-    path: &[u8],
-    existed: bool,
-    old: usize,
-    new: usize,
-    journal: &[u8],
-) -> Result<()> {
+// Where a segment was made behind the journal's first `old` bytes: puts it on disk. A journal that has bytes has a file.
+pub fn on_disk(rt: &impl Files, shelf: Shelf<'_>, book: &Book<'_>, old: usize) -> Result<()> {
+    let new = book.known.used;
     if new <= old {
         return Ok(());
     }
-    if new > journal.len() {
-        return Err(too_large(path));
-    }
-    let segment = &journal[old..new];
-    let name = name_of(path)?;
-    add_segment(rt, path, is_there(existed, old), old, segment).context(name)
+    let Some(segment) = book.bytes.get(old..new) else {
+        return Err(too_large(shelf.path));
+    };
+    let existed = shelf.existed || old > 0;
+    add_segment(rt, shelf.path, existed, old, segment).context(shelf.path)
 }
 
-// Whether a call was refused only since the program has less memory than the journal may fill, or than document 01's log.
+// Whether a call was refused, by its answer's number, only since the program has less memory than the journal may fill, or than document
+// 01's log.
 pub fn is_short(no: u32, lent: usize, room: usize, log: usize) -> bool {
-    if no == NO_ROOM {
-        return lent < room;
+    match no {
+        NO_ROOM => lent < room,
+        LOG_FULL => log < MAX_ENTRIES * ENTRY,
+        _ => false,
     }
-    if no == LOG_FULL {
-        return log < MAX_ENTRIES * ENTRY;
-    }
-    false
 }

@@ -2,6 +2,6 @@
 #![tactic(auto)]
 
 pub mod answer;
+pub mod desk;
 pub mod disk;
-pub mod job;
 pub mod output;

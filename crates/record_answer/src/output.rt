@@ -1,23 +1,31 @@
 ghost use Rattle.std.specs.Prelude.{◌≤◌, length};
+ghost use Rattle.digits.specs.Page.{SamePage};
 
-use digits::put::{put_byte, put_next, put_number};
+use digits::put::{Page, put_byte, put_next, put_number};
 use show::buffer::{flush, word};
 
-// `NO NUMBER` and a line feed. Answers the place after it.
-pub fn put_pair(out: &mut [u8], at: usize, no: u32, number: u64) -> usize
-    requires { 256 ≤ length out.old }
+// `NO NUMBER` and a line feed.
+pub fn put_pair(page: &mut Page<'_>, no: u32, number: u64)
+    requires { 256 ≤ length page.old.bytes.now }
+    ensures same_page { SamePage page.old page.new }
 {
-    let mut text = [0u8; 64];
-    let middle = put_number(&mut text, 0, no as u64);
-    let end = put_next(&mut text, middle, number);
-    let whole = put_byte(&mut text, end, b'\n');
-    word(out, at, &text[0..whole])
+    let mut text = [0; 64];
+    let mut line = Page {
+        bytes: &mut text,
+        at: 0,
+    };
+    put_number(&mut line, u64::from(no));
+    put_next(&mut line, number);
+    put_byte(&mut line, b'\n');
+    let end = line.at;
+    word(page, &text[..end]);
 }
 
 // Where the journal grew, all is written out that was printed: who waits for the answer learns that it is on disk.
-pub fn written_out(out: &[u8], at: usize, old: usize, new: usize) -> usize {
-    if new <= old {
-        return at;
+pub fn written_out(page: &mut Page<'_>, old: usize, new: usize)
+    ensures same_page { SamePage page.old page.new }
+{
+    if new > old {
+        flush(page);
     }
-    flush(out, at)
 }

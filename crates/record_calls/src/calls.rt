@@ -1,14 +1,15 @@
 ghost use Rattle.std.specs.Prelude.{◌≤◌, length};
-ghost use Rattle.layout.specs.State.{Sized};
+ghost use Rattle.digits.specs.Page.{SamePage};
 
 use crate::input::read_on;
 use anyhow::{Context, Result};
-use commands::command::Lengths;
-use journal::known::Known;
-use reading::read::begin;
+use digits::put::Page;
+use line_asked::asked::line_asked;
+use lines::gather::Kept;
+use reading::read::{Reading, begin};
 use record_answer::answer::answer_line;
+use record_answer::desk::Desk;
 use record_answer::disk::on_disk;
-use record_answer::job::{Job, Shelf};
 use record_answer::output::put_pair;
 use recording::segment::flush;
 use show::buffer::flush as write_out;
@@ -17,79 +18,45 @@ use std::process::ExitCode;
 use std::rt::Files;
 use verb_words::answer::answered;
 
-// Nothing read yet, and all of the memory lent. The verb's first line is printed already, up to this place.
-fn begin_at(known: Known, at: usize) -> Job {
-    let lengths = Lengths {
-        parents: 4294967295,
-        crowns: 4294967295,
-        amounts: 4294967295,
-        log: 4294967295,
-    };
-    let mut reading = begin();
-    reading.lengths = lengths;
-    reading.at = at;
-    Job { reading, known }
-}
-
-// Whether there is a line more to answer.
-fn goes_on(job: Job) -> bool {
-    let reading = job.reading;
-    reading.more
-}
-
-// The lines one after the other. A proved loop has to end, and nothing says that the input does: so turns are counted down, from a number
-// that no run uses up.
+// The lines one after the other. A proved loop has to end, and nothing says that the input does: so turns are counted, to a number that no
+// run uses up.
 fn answer_all<R: Read>(
     rt: &impl Files,
-    begun: Job,
-    shelf: Shelf,
+    desk: &mut Desk<'_>,
+    page: &mut Page<'_>,
     source: &mut R,
-    path: &[u8],
-    numbers: &mut [u32],
-    serials: &mut [u64],
-    parents: &mut [u32],
-    crowns: &mut [u32],
-    amounts: &mut [u64],
-    log: &mut [u32],
-    journal: &mut [u8],
-    input: &mut [u8],
     line: &mut [u8],
-    out: &mut [u8],
-) -> Result<Job>
-    requires sized { Sized numbers.old serials.old }
-    requires in_bounds { 256 ≤ length out.old }
+) -> Result<()>
+    requires { 256 ≤ length page.old.bytes.now }
+    ensures same_page { SamePage page.old page.new }
 {
-    let mut job = begun;
-    let mut turns = u64::MAX;
-    while turns > 0 {
-        if !goes_on(job) {
+    let mut input = [0; 65536];
+    let mut reading = begin();
+    'lines: for _ in 0..u64::MAX {
+        if !reading.more {
             break;
         }
-        job = read_on(source, job, input, line).context("CALLS")?;
-        job = answer_line(
-            rt, job, shelf, path, numbers, serials, parents, crowns, amounts, log, journal, line,
-            out,
-        )?;
-        turns -= 1;
+        reading = read_on(source, reading, &mut input, line).context("CALLS")?;
+        if reading.ended {
+            let asked = line_asked(line, reading.kept);
+            answer_line(rt, desk, page, asked, reading.line)?;
+            reading = Reading {
+                kept: Kept::default(),
+                ended: false,
+                ..reading
+            };
+        }
     }
-    Ok(job)
+    Ok(())
 }
 
-// The end of the list: what waits is put on disk as a segment, and then all is written out that was printed.
-fn finish(
-    rt: &impl Files,
-    job: Job,
-    shelf: Shelf,
-    path: &[u8],
-    journal: &mut [u8],
-    out: &[u8],
-) -> Result<ExitCode> {
-    let known = job.known;
-    let flushed = flush(journal, known);
-    let after = flushed.known;
-    on_disk(rt, path, shelf.existed, known.used, after.used, journal)?;
-    let reading = job.reading;
-    write_out(out, reading.at);
+// The end of the list: what waits is put on disk as a segment, and then all is written out that was printed. A journal that has no room for
+// the segment stays as it is.
+fn finish(rt: &impl Files, desk: &mut Desk<'_>, page: &mut Page<'_>) -> Result<ExitCode> {
+    let old = desk.book.known.used;
+    let _ = flush(&mut desk.book);
+    on_disk(rt, desk.shelf, &desk.book, old)?;
+    write_out(page);
     Ok(answered(0))
 }
 
@@ -97,41 +64,17 @@ fn finish(
 // written out is not printed.
 pub fn record_calls<R: Read>(
     rt: &impl Files,
-    known: Known,
-    shelf: Shelf,
+    desk: &mut Desk<'_>,
     entries: u64,
     source: &mut R,
-    path: &[u8],
-    numbers: &mut [u32],
-    serials: &mut [u64],
-    parents: &mut [u32],
-    crowns: &mut [u32],
-    amounts: &mut [u64],
-    log: &mut [u32],
-    journal: &mut [u8],
     line: &mut [u8],
-) -> Result<ExitCode>
-    requires { Sized numbers.old serials.old }
-{
-    let mut input = [0u8; 65536];
-    let mut out = [0u8; 65536];
-    let at = put_pair(&mut out, 0, 0, entries);
-    let job = answer_all(
-        rt,
-        begin_at(known, at),
-        shelf,
-        source,
-        path,
-        numbers,
-        serials,
-        parents,
-        crowns,
-        amounts,
-        log,
-        journal,
-        &mut input,
-        line,
-        &mut out,
-    )?;
-    finish(rt, job, shelf, path, journal, &out)
+) -> Result<ExitCode> {
+    let mut out = [0; 65536];
+    let mut page = Page {
+        bytes: &mut out,
+        at: 0,
+    };
+    put_pair(&mut page, 0, entries);
+    answer_all(rt, desk, &mut page, source, line)?;
+    finish(rt, desk, &mut page)
 }

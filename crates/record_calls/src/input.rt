@@ -1,5 +1,4 @@
 use reading::read::{Reading, take};
-use record_answer::job::Job;
 use std::io;
 use std::io::Read;
 
@@ -10,22 +9,21 @@ fn refill_from<R: Read>(source: &mut R, reading: Reading, input: &mut [u8]) -> i
         return Ok(reading);
     }
     let count = source.read(input)?;
-    let mut after = reading;
-    after.from = 0;
-    after.count = count;
-    after.more = count > 0;
-    Ok(after)
+    Ok(Reading {
+        from: 0,
+        count,
+        more: count > 0,
+        ..reading
+    })
 }
 
 // The input read on, up to a line's end. A list that can't be read any further has no line that ends.
 pub fn read_on<R: Read>(
     source: &mut R,
-    job: Job,
+    reading: Reading,
     input: &mut [u8],
     line: &mut [u8],
-) -> io::Result<Job> {
-    let known = job.known;
-    let filled = refill_from(source, job.reading, input)?;
-    let reading = take(filled, input, line);
-    Ok(Job { reading, known })
+) -> io::Result<Reading> {
+    let filled = refill_from(source, reading, input)?;
+    Ok(take(filled, input, line))
 }

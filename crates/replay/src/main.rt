@@ -1,15 +1,28 @@
 // `./meter replay JOURNAL [rows N] [log N]`: JOURNAL replayed into a fresh table. Prints `NO ENTRY`, and unless NO is 12 the table.
 #![tactic(auto)]
 
-use crate::storage::{large, small};
 use anyhow::Result;
 use replay_verb::verb::replay_verb;
-use std::alloc::AllocError;
 use std::process::ExitCode;
+use storage::memory::{Memory, Sizes};
 use verb_words::answer::ended;
 use verb_words::given::program_words;
 
-mod storage;
+// A row and an entry more than document 01's limits, so that more than they allow can be lent, and a journal of 16 MiB take some 48 MB.
+const LARGE: Sizes = Sizes {
+    rows: 65537,
+    entries: 1048577,
+    line: 0,
+    journal: 16777216,
+};
+
+// Where there is less, smaller journals and logs are taken.
+const SMALL: Sizes = Sizes {
+    rows: 65537,
+    entries: 131072,
+    line: 0,
+    journal: 1048576,
+};
 
 fn main(rt: HostRuntime) -> ExitCode {
     ended(&rt, replay(&rt))
@@ -17,17 +30,7 @@ fn main(rt: HostRuntime) -> ExitCode {
 
 fn replay(rt: &HostRuntime) -> Result<ExitCode> {
     let words = program_words(rt)?;
-    let mut memory = match large(rt.alloc()) {
-        Ok(memory) => memory,
-        Err(AllocError) => small(rt.alloc())?,
-    };
-    replay_verb(
-        rt,
-        &words,
-        &mut memory.parents,
-        &mut memory.crowns,
-        &mut memory.amounts,
-        &mut memory.log,
-        &mut memory.bytes,
-    )
+    let alloc = rt.alloc();
+    let mut memory = Memory::new(alloc, LARGE).or_else(|_| Memory::new(alloc, SMALL))?;
+    replay_verb(rt, &words, &mut memory)
 }

@@ -1,103 +1,69 @@
-ghost use Rattle.std.specs.Prelude.{◌≤◌, length};
-
 use crate::lending::{entries_lent, entries_wanted, rows_lent};
 use commands::command::Lengths;
+use layout::state::LentState;
 use lent_state::state::state_in;
 use replaying::replay::replay;
-use rules::table::State;
+use rules::numbers::{ENTRY, LOG_FULL, MAX_ENTRIES};
+use rules::table::{Lent, State};
+use storage::memory::Memory;
 
-// What replay answered, whether that is about the program's memory, how much was lent, and the table's state.
+// What replay answered, how much was lent, and the table's state.
 #[derive(Drop)]
 pub struct Rebuilt {
     pub no: u32,
     pub entry: usize,
-    pub short: bool,
     pub lengths: Lengths,
     pub state: State,
 }
 
-// What replay answered, and the table's state.
-#[derive(Drop)]
-struct Reached {
-    no: u32,
-    entry: usize,
-    state: State,
-}
-
-// The journal replayed into a fresh table in the first so many numbers of each part.
-fn replay_cut(
-    rows: usize,
-    crowned: usize,
-    logged: usize,
-    parents: &mut [u32],
-    crowns: &mut [u32],
-    amounts: &mut [u64],
-    log: &mut [u32],
-    bytes: &[u8],
-) -> Reached
-    requires rows_in_bounds { rows ≤ length parents.old }
-    requires crowned_in_bounds { crowned ≤ length crowns.old }
-    requires rows_in_bounds_2 { rows ≤ length amounts.old }
-    requires logged_in_bounds { logged ≤ length log.old }
-{
-    let mut numbers = [0u32; 67];
-    let mut serials = [0u64; 33];
-    let ended = replay(
-        &mut numbers,
-        &mut serials,
-        &mut parents[0..rows],
-        &mut crowns[0..crowned],
-        &mut amounts[0..rows],
-        &mut log[0..logged],
-        bytes,
-    );
-    Reached {
+// The journal replayed into a fresh table in all of the parts.
+fn replay_fresh(lent: &mut Lent<'_>, bytes: &[u8], lengths: Lengths) -> Rebuilt {
+    let mut numbers = [0; 67];
+    let mut serials = [0; 33];
+    let mut state = LentState {
+        numbers: &mut numbers,
+        serials: &mut serials,
+    };
+    let ended = replay(&mut state, lent, bytes);
+    Rebuilt {
         no: ended.no,
         entry: ended.entry,
-        state: state_in(&numbers, &serials),
+        lengths,
+        state: state_in(&state),
     }
 }
 
-// The journal replayed into a fresh table with so many rows and entries.
+// The journal's first bytes replayed into a fresh table with so many rows and entries: nothing where the answer would be about the
+// program's memory.
 pub fn replay_lent(
     asked_rows: u64,
     asked_log: u64,
-    parents: &mut [u32],
-    crowns: &mut [u32],
-    amounts: &mut [u64],
-    log: &mut [u32],
-    bytes: &[u8],
-) -> Rebuilt {
-    let rows = rows_lent(asked_rows, parents.len(), crowns.len(), amounts.len());
+    memory: &mut Memory,
+    used: usize,
+) -> Option<Rebuilt> {
+    let used = used.min(memory.journal.len());
+    let rows = rows_lent(asked_rows, memory);
     let wanted = entries_wanted(asked_log);
-    let entries = entries_lent(wanted, log.len());
-    let crowned = rows * 2;
-    let logged = entries * 7;
+    let entries = entries_lent(wanted, memory.log.len());
     let lengths = Lengths {
         parents: rows as u32,
-        crowns: crowned as u32,
+        crowns: (rows * 2) as u32,
         amounts: rows as u32,
-        log: logged as u32,
+        log: (entries * ENTRY) as u32,
     };
-    let reached = replay_cut(rows, crowned, logged, parents, crowns, amounts, log, bytes);
-    let state = reached.state;
-    Rebuilt {
-        no: reached.no,
-        entry: reached.entry,
-        short: short_of(asked_log, entries, wanted, reached.no),
-        lengths,
-        state,
-    }
+    let mut lent = Lent {
+        parents: &mut memory.parents[..rows],
+        crowns: &mut memory.crowns[..rows * 2],
+        amounts: &mut memory.amounts[..rows],
+        log: &mut memory.log[..entries * ENTRY],
+    };
+    let rebuilt = replay_fresh(&mut lent, &memory.journal[..used], lengths);
+    let short = entries < wanted && is_short(asked_log, rebuilt.no);
+    (!short).then_some(rebuilt)
 }
 
-// Whether the answer would be about the program's memory: more is asked for than document 01 allows and can't be lent, or a log is full
-// that is shorter than was asked for.
-fn short_of(asked: u64, lent: usize, wanted: usize, no: u32) -> bool {
-    if lent >= wanted {
-        return false;
-    }
-    if asked > 1048576 {
-        return true;
-    }
-    no == 3
+// Whether an answer over a log that is shorter than was asked for is about that: more is asked for than document 01 allows and can't be
+// lent, or the log is full.
+fn is_short(asked: u64, no: u32) -> bool {
+    asked > MAX_ENTRIES as u64 || no == LOG_FULL
 }

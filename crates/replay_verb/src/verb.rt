@@ -1,8 +1,10 @@
 use anyhow::{Result, bail};
 use replay_answer::answer::answer;
 use replay_lent::replay::replay_lent;
+use rules::table::Seen;
 use std::process::ExitCode;
 use std::rt::Files;
+use storage::memory::Memory;
 use verb_journal::named::journal_named;
 use verb_words::verbs::replay_words;
 
@@ -10,25 +12,20 @@ use verb_words::verbs::replay_words;
 pub fn replay_verb(
     rt: &(impl Files + Print),
     words: &[String],
-    parents: &mut [u32],
-    crowns: &mut [u32],
-    amounts: &mut [u64],
-    log: &mut [u32],
-    bytes: &mut [u8],
+    memory: &mut Memory,
 ) -> Result<ExitCode> {
-    let asked = replay_words(words);
-    if !asked.good {
+    let Some(asked) = replay_words(words) else {
         bail!("usage: ./meter replay JOURNAL [rows N] [log N]");
-    }
-    let length = journal_named(rt, words, bytes)?;
-    let rebuilt = replay_lent(
-        asked.rows,
-        asked.log,
-        parents,
-        crowns,
-        amounts,
-        log,
-        &bytes[0..length],
-    );
-    answer(rt, rebuilt, parents, crowns, amounts, log)
+    };
+    let used = journal_named(rt, asked.journal, &mut memory.journal)?;
+    let Some(rebuilt) = replay_lent(asked.rows, asked.log, memory, used) else {
+        bail!("log: larger than the program takes");
+    };
+    let seen = Seen {
+        parents: &memory.parents,
+        crowns: &memory.crowns,
+        amounts: &memory.amounts,
+        log: &memory.log,
+    };
+    answer(rt, rebuilt, seen)
 }

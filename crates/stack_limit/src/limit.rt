@@ -1,46 +1,29 @@
 // The limit as the system tells it in a text.
-ghost use Rattle.std.specs.Prelude.{◌≤◌, length};
-
-use check::same;
 use files::read::read_front;
 use std::rt::Files;
-use words::number::{Number, read};
+use words::number::read;
 use words::words::{skip_blanks, word_end};
 
-// The bytes of stack that the program may use: 0 where that is not known, or has no limit. (Under an emulator a stack without a limit
-// is a small one.)
-pub fn stack_limit(rt: &impl Files) -> u64 {
-    let mut text = [0u8; 4096];
-    match read_front(rt, b"/proc/self/limits", &mut text) {
-        Ok(length) => limit_in(&text[0..length]),
-        Err(_) => 0,
-    }
+// The bytes of stack that the program may use: nothing where that is not known, or has no limit. (Under an emulator a stack without a
+// limit is a small one.)
+pub fn stack_limit(rt: &impl Files) -> Option<u64> {
+    let mut text = [0; 4096];
+    let length = read_front(rt, "/proc/self/limits", &mut text).ok()?;
+    limit_in(&text[..length])
 }
 
 // The soft limit in the text's line about the stack.
-fn limit_in(text: &[u8]) -> u64 {
-    let mut end = 14;
-    while end < text.len() {
-        if same(&text[end - 14..end], b"Max stack size") {
-            return number_after(text, end);
-        }
-        end += 1;
-    }
-    0
+fn limit_in(text: &[u8]) -> Option<u64> {
+    let name = b"Max stack size".as_slice();
+    let start = text.windows(name.len()).position(|part| part == name)?;
+    first_number(&text[start + name.len()..])
 }
 
-// The word after a place as a number.
-fn number_after(text: &[u8], from: usize) -> u64
-    requires { from ≤ length text.now }
-{
-    let start = skip_blanks(text, from);
-    if start >= text.len() {
-        return 0;
+// The first word of a text as a number.
+fn first_number(text: &[u8]) -> Option<u64> {
+    let start = skip_blanks(text, 0);
+    if start == text.len() {
+        return None;
     }
-    let end = word_end(text, start);
-    let number = read(&text[start..end], 18446744073709551615);
-    match number {
-        Number::Not => 0,
-        Number::Value(n) => n,
-    }
+    read(&text[start..word_end(text, start)], u64::MAX)
 }

@@ -1,4 +1,4 @@
-// The journal that a verb's words name, for the verbs that only read it.
+// The journal that a verb names.
 #![tactic(auto)]
 
 pub mod named;

@@ -1,23 +1,40 @@
-ghost use Rattle.std.specs.Prelude.{◌≡◌, ◌≤◌, length, IfOk, OnErr};
+ghost use Rattle.std.specs.Prelude.{◌≡◌, ◌≤◌, length, IfOk, OnErr, IfSome};
 
-use anyhow::{Context, Result};
-use files::name::name_of;
+use anyhow::{Context, Error, Result};
 use journal_file::read::read_journal;
+use std::io::ErrorKind;
 use std::rt::Files;
-use verb_words::given::word_at;
 
-// Answers the journal's length.
-fn journal_at(rt: &impl Files, path: &[u8], bytes: &mut [u8]) -> Result<usize>
-    ensures ok { IfOk result (λ count. count ≤ length bytes.new) }
-    ensures err { OnErr result (length bytes.new ≡ length bytes.old) }
-{
-    read_journal(rt, path, bytes).context(name_of(path)?)
+// Where a journal is kept: its path, whether its file was there, and how long it may become. `existed` is a flag of its own, since a
+// file that is there may be empty.
+#[derive(Clone, Copy)]
+pub struct Shelf<'a> {
+    pub path: &'a str,
+    pub existed: bool,
+    pub room: usize,
 }
 
-// The journal that the first of the words names. Answers its length.
-pub fn journal_named(rt: &impl Files, words: &[String], bytes: &mut [u8]) -> Result<usize>
+// That a journal is longer than the program has memory for.
+pub fn too_large(path: &str) -> Error {
+    Error::msg("larger than the program takes").context(path)
+}
+
+// The journal of this path. Answers its length.
+pub fn journal_named(rt: &impl Files, path: &str, bytes: &mut [u8]) -> Result<usize>
     ensures ok { IfOk result (λ count. count ≤ length bytes.new) }
     ensures err { OnErr result (length bytes.new ≡ length bytes.old) }
 {
-    journal_at(rt, word_at(words, 1).as_bytes(), bytes)
+    read_journal(rt, path, bytes).context(path)
+}
+
+// The journal of this path, if its file is there. "A missing JOURNAL is an empty one for `append` and `record` alone."
+pub fn found_journal(rt: &impl Files, path: &str, bytes: &mut [u8]) -> Result<Option<usize>>
+    ensures ok { IfOk result (λ found. IfSome found (λ count. count ≤ length bytes.new)) }
+    ensures err { OnErr result (length bytes.new ≡ length bytes.old) }
+{
+    match read_journal(rt, path, bytes) {
+        Ok(length) => Ok(Some(length)),
+        Err(why) if why.kind() == ErrorKind::NotFound => Ok(None),
+        Err(why) => Err(why).context(path),
+    }
 }

@@ -1,8 +1,8 @@
-// What a verb ends with: its first line, and its status.
+// What a verb ends with: its first line, and its status. NO is a number here: it is what every verb prints (docs/METER.md).
 ghost use Rattle.std.specs.Prelude.{◌≡◌, ◌≢◌};
 ghost use Rattle.std.specs.Process.{exit_status};
 
-use anyhow::Context;
+use anyhow::{Context, Error, Result};
 use std::io;
 use std::process::ExitCode;
 
@@ -16,15 +16,11 @@ pub fn answered(no: u32) -> ExitCode
     ensures done { no ≡ 0 → exit_status result ≡ 0 }
     ensures refused { no ≢ 0 → exit_status result ≡ 1 }
 {
-    if no == 0 {
-        ExitCode::from(0)
-    } else {
-        ExitCode::from(1)
-    }
+    ExitCode::from(u8::from(no != 0))
 }
 
 // The first line of a verb that prints no other, and its status.
-pub fn end_with(rt: &impl Print, no: u32, number: u64) -> anyhow::Result<ExitCode> {
+pub fn end_with(rt: &impl Print, no: u32, number: u64) -> Result<ExitCode> {
     print_line(rt, no, number).context("standard output")?;
     Ok(answered(no))
 }
@@ -38,12 +34,12 @@ pub fn gave_up() -> ExitCode
 }
 
 // Says on standard error why the verb gave up. Where even that can't be written, the status alone tells it.
-pub fn complain(rt: &impl Eprint, why: &anyhow::Error) {
+pub fn complain(rt: &impl Eprint, why: &Error) {
     let _ = rt.eprintln(format_args!("{why:#}"));
 }
 
 // What the program ends with.
-pub fn ended(rt: &impl Eprint, verb: anyhow::Result<ExitCode>) -> ExitCode {
+pub fn ended(rt: &impl Eprint, verb: Result<ExitCode>) -> ExitCode {
     match verb {
         Ok(status) => status,
         Err(why) => {

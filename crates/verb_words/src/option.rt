@@ -1,40 +1,47 @@
 // FILES.md: "Options come in the order shown. Numbers are decimal. A number above its width .. is no verb's words."
-ghost use Rattle.std.specs.Prelude.{◌≡◌, ◌≤◌, ◌<◌};
+ghost use Rattle.std.specs.Prelude.{◌≡◌, ◌≤◌};
 ghost use Rattle.verb_words.specs.Option.{chosen};
 
-use crate::given::word_at;
-use check::same;
-use words::number::{Number, read};
+use words::number::read;
 
-// What two words say of an option: that the first isn't its name, that the second is no number for it, or its number.
-#[derive(Drop)]
-pub enum Chosen {
-    Absent,
-    Wrong,
-    Given(u64),
+// What is wrong with an option: the word after its name is no number for it.
+#[derive(Clone, Copy, Debug, PartialEq, Eq)]
+pub enum OptionError {
+    NoNumber,
 }
 
-// The option of this name, whose number is at most the limit, where `word` may be its name.
-pub fn option_of(name: &[u8], limit: u64, word: &[u8], number: &[u8]) -> Chosen
+// The number of this option, at most the limit, where `word` may be its name: nothing where it isn't. Bytes, and no text:
+// docs/CONTRACTS.md names the function, so it asks no more.
+pub fn option_of(
+    name: &[u8],
+    limit: u64,
+    word: &[u8],
+    number: &[u8],
+) -> Result<Option<u64>, OptionError>
     requires { 9 ≤ limit }
     ensures { result ≡ chosen name.now limit word.now number.now }
 {
-    if !same(word, name) {
-        return Chosen::Absent;
-    }
-    let n = read(number, limit);
-    match n {
-        Number::Not => Chosen::Wrong,
-        Number::Value(value) => Chosen::Given(value),
+    if word == name {
+        match read(number, limit) {
+            Some(n) => Ok(Some(n)),
+            None => Err(OptionError::NoNumber),
+        }
+    } else {
+        Ok(None)
     }
 }
 
-// The same of the program's word at a place and the one after it.
-pub fn option_at(words: &[String], at: usize, name: &[u8], limit: u64) -> Chosen
-    requires at_bound { at < 1000 }
-    requires le_limit { 9 ≤ limit }
+// The option of this name, if the words begin with it, and the words after it.
+pub(crate) fn take_option<'a>(
+    words: &'a [String],
+    name: &str,
+    limit: u64,
+) -> Result<(Option<u64>, &'a [String]), OptionError>
+    requires { 9 ≤ limit }
 {
-    let word = word_at(words, at);
-    let number = word_at(words, at + 1);
-    option_of(name, limit, word.as_bytes(), number.as_bytes())
+    let [word, number, rest @ ..] = words else {
+        return Ok((None, words));
+    };
+    let option = option_of(name.as_bytes(), limit, word.as_bytes(), number.as_bytes())?;
+    Ok((option, if option.is_some() { rest } else { words }))
 }

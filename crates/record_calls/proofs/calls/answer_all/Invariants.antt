@@ -1,19 +1,6 @@
--- The turns fall, and every part keeps its length.
-use Rattle.std.specs.Prelude.{◌≡◌, length}
+-- The page is the same one.
+use Rattle.digits.specs.Page.{SamePage}
 use Rattle.record_calls.proofs.calls.answer_all.Given as goal
 
-abbrev pub invariant-loop-turns : goal.invariant-loop-turns
-invariant-loop-turns g l =
-    (length l.numbers ≡ length l.fn.numbers)
-    × (length l.serials ≡ length l.fn.serials)
-    × (length l.parents ≡ length l.fn.parents)
-    × (length l.crowns ≡ length l.fn.crowns)
-    × (length l.amounts ≡ length l.fn.amounts)
-    × (length l.log ≡ length l.fn.log)
-    × (length l.journal ≡ length l.fn.journal)
-    × (length l.input ≡ length l.fn.input)
-    × (length l.line ≡ length l.fn.line)
-    × (length l.out ≡ length l.fn.out)
-
-abbrev pub decreases-loop-turns : goal.decreases-loop-turns
-decreases-loop-turns g l = l.turns
+abbrev pub invariant-lines : goal.invariant-lines
+invariant-lines g l = SamePage l.fn.page l.page

@@ -1,13 +1,13 @@
 -- What was read is what the option says. Assumes nothing.
 use Rattle.kit.specs.Names.{◌∙◌}
-use Rattle.words.proofs.LineLaws.{told_same}
+use Rattle.words.proofs.LineLaws.{told_equal}
 use Rattle.verb_words.proofs.option.option_of.Goals as goal
 
-pub returns-then-not-same : goal.returns-then-not-same
-returns-then-not-same c = rw (told_same c.same.ensures ∙ c.if-not-same.true)
+pub returns-in-None : goal.returns-in-None
+returns-in-None c = rw (told_equal c.args.word.now c.args.name.now c.eq.ensures ∙ c.if-eq.true, ← c.read.ensures, c.in-None.is)
 
-pub returns-in-Not : goal.returns-in-Not
-returns-in-Not c = rw (told_same c.same.ensures ∙ c.if-not-same.false, ← c.read-n.ensures, c.in-Not.is)
+pub returns-in-Some : goal.returns-in-Some
+returns-in-Some c = rw (told_equal c.args.word.now c.args.name.now c.eq.ensures ∙ c.if-eq.true, ← c.read.ensures, c.in-Some.is)
 
-pub returns-in-Value : goal.returns-in-Value
-returns-in-Value c = rw (told_same c.same.ensures ∙ c.if-not-same.false, ← c.read-n.ensures, c.in-Value.is)
+pub returns-else-eq : goal.returns-else-eq
+returns-else-eq c = rw (told_equal c.args.word.now c.args.name.now c.eq.ensures ∙ c.if-eq.false)
