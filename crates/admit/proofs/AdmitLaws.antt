@@ -5,7 +5,7 @@ use Rattle.layout.specs.State.{NUMBERS, SERIALS}
 use Rattle.coding.specs.Coding.{Listed, unlisted, calls, is_listed, calls_in}
 use Rattle.admit.specs.declared.tests.Unserved.{Unserved}
 use Rattle.admit.specs.declared.tests.Unserved.TheVariants.{NoState, NoCall, NoAnswers}
-use Rattle.admit.specs.Admit.{CARRIED-OUT, NO-STATE, NO-CALL, NO-ANSWERS, code_of, state_admission, hearing, admission}
+use Rattle.admit.specs.Admit.{CARRIED-OUT, NO-STATE, NO-CALL, NO-ANSWERS, unserved_code, state_admission, hearing, admission}
 
 unlisted_is : (l : Listed) → is_listed l ≡ false → l ≡ unlisted
 unlisted_is unlisted e = refl
@@ -16,14 +16,14 @@ calls_are unlisted e = absurd (let z : ◌≡◌ {A = ℕ} 0 1 = cc in omega ari
 calls_are (calls cs) e = refl
 
 -- No reason is the number of what is carried out.
-pub unserved : (u : Unserved) → code_of u ≡ CARRIED-OUT → ⊥
+pub unserved : (u : Unserved) → unserved_code u ≡ CARRIED-OUT → ⊥
 unserved NoState e = omega arith
 unserved NoCall e = omega arith
 unserved NoAnswers e = omega arith
 
 -- Whether the state's numbers are there decides first.
 module _ (l : Listed) (answers : ℕ) where
-  refused_first : (b : Bool) (u : Unserved) → code_of u ≡ cond b NO-STATE CARRIED-OUT → code_of u ≡ cond b NO-STATE (hearing l answers)
+  refused_first : (b : Bool) (u : Unserved) → unserved_code u ≡ cond b NO-STATE CARRIED-OUT → unserved_code u ≡ cond b NO-STATE (hearing l answers)
   refused_first true u e = e
   refused_first false u e = absurd (unserved u e)
 
@@ -36,7 +36,7 @@ abbrev pub missing : ℕ → ℕ → Bool
 missing n s = not (eqb n NUMBERS && eqb s SERIALS)
 
 module _ (numbers serials : ℕ) (l : Listed) (answers : ℕ) where
-  pub no_state : (u : Unserved) → code_of u ≡ state_admission numbers serials → code_of u ≡ admission numbers serials l answers
+  pub no_state : (u : Unserved) → unserved_code u ≡ state_admission numbers serials → unserved_code u ≡ admission numbers serials l answers
   unfolding admission
   no_state u e = refused_first l answers (missing numbers serials) u e
 

@@ -20,14 +20,14 @@ abbrev pub NO-ANSWERS : ℕ
 NO-ANSWERS = 3
 
 -- What is returned of a test.
-abbrev pub code_of : Unserved → ℕ
-code_of NoState = NO-STATE
-code_of NoCall = NO-CALL
-code_of NoAnswers = NO-ANSWERS
+abbrev pub unserved_code : Unserved → ℕ
+unserved_code NoState = NO-STATE
+unserved_code NoCall = NO-CALL
+unserved_code NoAnswers = NO-ANSWERS
 
 abbrev pub code_in : Result (Unit {0}) Unserved → ℕ
 code_in (Ok x) = CARRIED-OUT
-code_in (Err why) = code_of why
+code_in (Err why) = unserved_code why
 
 -- By a state's numbers alone.
 abbrev pub state_admission : ℕ → ℕ → ℕ

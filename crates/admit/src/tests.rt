@@ -1,6 +1,6 @@
 ghost use Rattle.std.specs.Prelude.{◌≡◌, ℕ};
 ghost use Rattle.coding.specs.Coding.{unlisted, call_list};
-ghost use Rattle.admit.specs.Admit.{admission, state_admission, code_of, code_in};
+ghost use Rattle.admit.specs.Admit.{admission, state_admission, unserved_code, code_in};
 
 use coding::coding::{CALL, all_calls};
 use layout::state::{NUMBERS, SERIALS};
@@ -27,7 +27,7 @@ pub enum Unserved {
 impl Unserved {
     // What C reads.
     pub fn code(self) -> u32
-        ensures { result ≡ code_of self }
+        ensures { result ≡ unserved_code self }
     {
         match self {
             Unserved::NoState => NO_STATE,
@@ -70,7 +70,7 @@ pub fn test_calls(
 // Why nothing is carried out where there is no call.
 #[tactic(auto, using(crate::proofs::AdmitLaws::no_state, crate::proofs::AdmitLaws::no_calls))]
 pub fn no_call(numbers: usize, serials: usize) -> Unserved
-    ensures { (answers : ℕ) → code_of result ≡ admission numbers serials unlisted answers }
+    ensures { (answers : ℕ) → unserved_code result ≡ admission numbers serials unlisted answers }
 {
     if let Err(unserved) = test_state(numbers, serials) {
         return unserved;

@@ -3,12 +3,12 @@ use Rattle.std.specs.Prelude.{◌≡◌}
 use Rattle.kit.specs.Names.{refl, Bool, true, false, cond, ℕ, eqb, arith, eqb-true}
 use Rattle.layout.specs.State.{NUMBERS, SERIALS}
 use Rattle.admit.specs.declared.tests.Unserved.{Unserved}
-use Rattle.admit.specs.Admit.{CARRIED-OUT, NO-STATE, NO-ANSWERS, code_of, state_admission}
+use Rattle.admit.specs.Admit.{CARRIED-OUT, NO-STATE, NO-ANSWERS, unserved_code, state_admission}
 use Rattle.admit.proofs.AdmitLaws.{unserved, carried, there, missing}
 use Rattle.results.specs.Results.{RESULT, result_admission, room_admission}
 
 module _ (room : ℕ) where
-  refused_first : (b : Bool) (u : Unserved) → code_of u ≡ cond b NO-STATE CARRIED-OUT → code_of u ≡ cond b NO-STATE room
+  refused_first : (b : Bool) (u : Unserved) → unserved_code u ≡ cond b NO-STATE CARRIED-OUT → unserved_code u ≡ cond b NO-STATE room
   refused_first true u e = e
   refused_first false u e = absurd (unserved u e)
 
@@ -17,7 +17,7 @@ module _ (room : ℕ) where
   room_then false e = refl
 
 module _ (numbers serials result : ℕ) where
-  pub no_state : (u : Unserved) → code_of u ≡ state_admission numbers serials → code_of u ≡ result_admission numbers serials result
+  pub no_state : (u : Unserved) → unserved_code u ≡ state_admission numbers serials → unserved_code u ≡ result_admission numbers serials result
   unfolding result_admission
   no_state u e = refused_first (room_admission result) (missing numbers serials) u e
 

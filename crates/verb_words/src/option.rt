@@ -12,6 +12,7 @@ pub enum OptionError {
 
 // The number of this option, at most the limit, where `word` may be its name: nothing where it isn't. Bytes, and no text:
 // docs/CONTRACTS.md names the function, so it asks no more.
+#[tactic(auto, using(words::proofs::LineLaws::told_equal))]
 pub fn option_of(
     name: &[u8],
     limit: u64,
@@ -21,13 +22,12 @@ pub fn option_of(
     requires { 9 ≤ limit }
     ensures { result ≡ chosen name.now limit word.now number.now }
 {
-    if word == name {
-        match read(number, limit) {
-            Some(n) => Ok(Some(n)),
-            None => Err(OptionError::NoNumber),
-        }
-    } else {
-        Ok(None)
+    if word != name {
+        return Ok(None);
+    }
+    match read(number, limit) {
+        Some(n) => Ok(Some(n)),
+        None => Err(OptionError::NoNumber),
     }
 }
 
