@@ -2,7 +2,7 @@
 -- refused. Assumes nothing.
 use Rattle.std.specs.Prelude.{◌≡◌, ◌∷◌, ◌+◌, ◌-◌, ◌*◌, ◌<◌, ◌≤◌, None, Some}
 use Rattle.kit.specs.Names.{refl, ap, ◌∙◌, Bool, true, false, List, [], ℕ, zero, suc, length, get_or, take, drop, length-drop, arith}
-use Rattle.rules.specs.Rules.{Answer, Sought, State, UndoLog, BROKEN-TABLE, ENTRY, Log, Table, entries, entry_at, head_of, refusal, range, answered, refuse_state, seek}
+use Rattle.rules.specs.Rules.{Answer, Sought, State, UndoLog, BROKEN-TABLE, ENTRY, Log, Table, entries, entry_at, head_of, range, answered, refuse_state, seek}
 use Rattle.rules.specs.Rules.{unfit, asked, viewed, actions_view, outcome, sizes_of, bad_table, call, step}
 use Rattle.rules.specs.declared.call.Call.TheVariants.{Actions}
 use Rattle.rules.specs.declared.table.UndoLog.TheVariants.{Unknown}
@@ -73,9 +73,6 @@ module _ (l : Log) (a e : ℕ) where
       omega (arith, n)
 
 -- ---- the view of what is answered
-
-pub refused_empty : (l : Log) (n : ℕ) → actions_view l (refusal n) ≡ []
-refused_empty l n = refl
 
 -- The answer's range gives the entries since the snapshot.
 pub answer_seen : (before after : Table) (token : ℕ) (a : Answer) → outcome a after ≡ step before (Actions token) → actions_view before.log a ≡ seen before token

@@ -10,6 +10,7 @@ use Rattle.rules.specs.Rules.{undoable, reversed, undo, Outcome, refuse, carry, 
 use Rattle.rules.specs.Rules.{rollback, call, step, outcome, refusal, BAD-STATE}
 use Rattle.rules.specs.declared.call.Call.TheVariants.{New, Len, Find, Unioned, Join, Post, Probe, ProbeKey, TryProbe, Snapshot, Rollback, Commit, Keys, Actions, Changes}
 use Rattle.std.specs.Prelude.{None, Some}
+use Rattle.std.proofs.lemmas.Bool.{cond_both, or_parts}
 use Rattle.rules.specs.declared.table.UndoLog.TheVariants.{NewElem, SetElem, Unknown}
 use Rattle.rules.proofs.StateLaws.{Roomy, roomy_bad, good_roomy, bad_good}
 
@@ -69,15 +70,6 @@ room o u size n e h =
 
 -- ---- what a call leaves
 
--- Both ends of a test; the second may use that it failed.
-unless : {A : Type 0} (P : A → Type 0) (b : Bool) {x y : A} → P x → (b ≡ false → P y) → P (cond b x y)
-unless P true p f = p
-unless P false p f = f refl
-
-neither : (a b : Bool) → (a || b) ≡ false → (a ≡ false) × (b ≡ false)
-neither true b q = (q, cc)
-neither false b q = (refl, q)
-
 -- A state within what a table lends.
 abbrev Within : Table → State → Type 0
 Within t s = Roomy (sizes_of t.rows t.log) (head_of s)
@@ -89,7 +81,7 @@ record Kept (t u : Table) : Type 0 where
 
 module _ (t : Table) (R : Within t t.state) where
   kept_refuse : (b : Bool) (n : ℕ) (rest : Outcome) → (b ≡ false → Kept t rest.table) → Kept t (refuse b n t rest).table
-  kept_refuse b n rest f = unless (λ (o : Outcome). Kept t o.table) b (record { long = refl; within = R }) f
+  kept_refuse b n rest f = cond_both b _ _ (λ (o : Outcome). Kept t o.table) (λ _. record { long = refl; within = R }) f
 
   -- Any plan whatever: there is room for what it writes.
   kept_carry : (p : Plan) → Kept t (carry t p).table
@@ -132,7 +124,7 @@ module _ (t : Table) (R : Within t t.state) where
       let high = ltb s.count m.keys in
       kept_refuse (not_innermost s token) NOT-INNERMOST _ (λ _.
       kept_refuse (unfit (head_of s) m || not (undoable m.keys s.count es)) BROKEN-TABLE _ (λ e.
-      let fit = neither low high (neither (unfit (head_of s) m) (not (undoable m.keys s.count es)) e).0 in
+      let fit = or_parts low high (or_parts (unfit (head_of s) m) (not (undoable m.keys s.count es)) e).0 in
       record {
         long = undo_long t.rows t.log es;
         within = record {
@@ -149,7 +141,7 @@ module _ (t : Table) (R : Within t t.state) where
   kept_resting r w = record { long = refl; within = w }
 
   within_refuse : (b : Bool) (n : ℕ) (rest : Answered) → (b ≡ false → Within t rest.state) → Within t (refuse_state b n t.state rest).state
-  within_refuse b n rest f = unless (λ (r : Answered). Within t r.state) b R f
+  within_refuse b n rest f = cond_both b _ _ (λ (r : Answered). Within t r.state) (λ _. R) f
 
   within_snapshot : Within t (snapshot t.state).state
   within_snapshot =
@@ -167,7 +159,7 @@ module _ (t : Table) (R : Within t t.state) where
       record {
         level = R.level;
         count = R.count;
-        used = unless (λ (u : ℕ). u ≤ entries t.log) (eqb s.«open» 1) zero-le (λ _. R.used);
+        used = cond_both (eqb s.«open» 1) _ _ (λ (u : ℕ). u ≤ entries t.log) (λ _. zero-le) (λ _. R.used);
         opened = omega (arith, R.opened);
       }))
 

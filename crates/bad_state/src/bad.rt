@@ -8,35 +8,22 @@ use rules::table::{Head, Lent, Seen};
 use undo_log::tokens::{Settled, refused};
 
 // Whether the head, or the lengths of the four lent parts, are no table's: BAD_STATE.
-#[tactic(auto, using(rules::proofs::StateLaws::not_good, rules::proofs::StateLaws::roomy_bad))]
+#[tactic(auto, unfolding(rules::specs::Refusal::bad))]
 pub fn bad_state(head: Head, parents: usize, crowns: usize, amounts: usize, log: usize) -> bool
     ensures { result ≡ bad (sizes parents crowns amounts log) head }
 {
-    if parents > MAX_ROWS || log > MAX_ENTRIES * ENTRY {
-        return true;
-    }
-    if crowns != parents * CROWN || amounts != parents || log % ENTRY != 0 {
-        return true;
-    }
-    if head.count as usize > parents || head.used as usize > log / ENTRY || head.open > MAX_OPEN {
-        return true;
-    }
-    stray(head)
+    parents > MAX_ROWS
+        || log > MAX_ENTRIES * ENTRY
+        || crowns != parents * CROWN
+        || amounts != parents
+        || log % ENTRY != 0
+        || head.count as usize > parents
+        || head.used as usize > log / ENTRY
+        || head.open > MAX_OPEN
+        || stray(head)
 }
 
-// The same of what is lent, and of what is only read of it.
-pub fn bad_lent(head: Head, lent: &Lent<'_>) -> bool
-    ensures { result ≡ bad (sizes_of (rows_in lent.now) (log_in lent.now)) head }
-{
-    bad_state(
-        head,
-        lent.parents.len(),
-        lent.crowns.len(),
-        lent.amounts.len(),
-        lent.log.len(),
-    )
-}
-
+// The same of what is only read of the lent parts, and of what is lent.
 pub fn bad_seen(head: Head, seen: Seen<'_>) -> bool
     ensures { result ≡ bad (sizes_of (rows_seen seen.entry) (log_seen seen.entry)) head }
 {
@@ -47,6 +34,12 @@ pub fn bad_seen(head: Head, seen: Seen<'_>) -> bool
         seen.amounts.len(),
         seen.log.len(),
     )
+}
+
+pub fn bad_lent(head: Head, lent: &Lent<'_>) -> bool
+    ensures { result ≡ bad (sizes_of (rows_in lent.now) (log_in lent.now)) head }
+{
+    bad_seen(head, lent.seen())
 }
 
 // Whether entries are used with nothing open: all of BAD_STATE that a call can leave where there was none.

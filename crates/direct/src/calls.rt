@@ -6,9 +6,7 @@ ghost use Rattle.decisions.specs.Decided.{Does};
 use decisions::good::GoodTable;
 use decisions::todo::{End, Todo, refused, still};
 use makers::answer::{found, held, said};
-use plans::room::lacks;
 use rows::rows::row_at;
-use rules::numbers::ENTRY;
 use rules::refusal::Refusal;
 use rules::table::{Head, Owner, Value};
 use undo_log::tokens::Settled;
@@ -22,7 +20,7 @@ pub fn new_key(table: GoodTable<'_>, owner: u32, amount: u64) -> Todo
     if head.count as usize == seen.parents.len() {
         return refused(Refusal::KeysFull, head);
     }
-    if lacks(head.open, head.used, seen.log.len() / ENTRY, 1) {
+    if table.lacks(1) {
         return refused(Refusal::LogFull, head);
     }
     let value = Value {

@@ -27,18 +27,16 @@ fn idle() -> Trail
     }
 }
 
-#[tactic(auto, using(decisions::proofs::GoodLaws::table_parents))]
 fn far_one(table: GoodTable<'_>, key: u32, call: OneCall) -> Result<FarPlan, Refusal>
     requires { key < table.head.count }
     ensures { let t = table.entry in
         FarPlanned (rows_seen t.seen) (log_seen t.seen) t.head (walk_call (One key call)) result }
 {
-    let GoodTable { seen, head } = table;
-    let Some(first) = trace(seen.parents, head.count, key) else {
+    let Some(first) = trace(table.live(), key) else {
         return Err(Refusal::BrokenTable);
     };
     let steps = first.steps;
-    let plan = one_plan(seen, call, first.nodes[steps], steps as u32);
+    let plan = one_plan(table.seen, call, first.nodes[steps], steps as u32);
     // All that a walk passed but the last is rewritten.
     let plan = table.fitted(Ok(plan), steps.saturating_sub(1))?;
     Ok(FarPlan {
@@ -48,24 +46,23 @@ fn far_one(table: GoodTable<'_>, key: u32, call: OneCall) -> Result<FarPlan, Ref
     })
 }
 
-#[tactic(auto, using(decisions::proofs::GoodLaws::table_parents))]
 fn far_two(table: GoodTable<'_>, a: u32, b: u32, call: TwoCall) -> Result<FarPlan, Refusal>
     requires a_lt_count { a < table.head.count }
     requires b_lt_count { b < table.head.count }
     ensures { let t = table.entry in
         FarPlanned (rows_seen t.seen) (log_seen t.seen) t.head (walk_call (Two a call b)) result }
 {
-    let GoodTable { seen, head } = table;
-    let Some(first) = trace(seen.parents, head.count, a) else {
+    let live = table.live();
+    let Some(first) = trace(live, a) else {
         return Err(Refusal::BrokenTable);
     };
-    let Some(second) = trace_after(seen.parents, head.count, a, first, b) else {
+    let Some(second) = trace_after(live, a, first, b) else {
         return Err(Refusal::BrokenTable);
     };
     let from = first.steps;
     let to = second.steps;
     let verdict = two_plan(
-        seen,
+        table.seen,
         call,
         first.nodes[from],
         second.nodes[to],

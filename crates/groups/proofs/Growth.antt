@@ -3,14 +3,15 @@ use Rattle.std.specs.Prelude.{◌≡◌, ◌||◌, ◌∷◌, ◌++◌, ◌+◌,
 use Rattle.kit.specs.Names.{refl, ◌∙◌, Bool, true, false, not, List, [], ℕ, zero, suc, length, length-set}
 use Rattle.kit.specs.Names.{length-append, get_or, eqb, ltb, arith, le_refl, ltb-false}
 use Rattle.rules.specs.Rules.{Call, UndoLog, Mark, Answer, Value, Merged, Sought, Head, MAX-REDIRECTS, MAX-OPEN, MAX-U64, Rows, Table, value_of, row_at}
-use Rattle.rules.specs.Rules.{put_row, head_of, value, owner_of, range, said, Path, broken, to, from, path, Write, redirect, Memory, put, puts, memory_of}
-use Rattle.rules.specs.Rules.{full, merge, Plan, plan, Walked, rewrites, go_on, walk, walk_both, settle, unite, too_high, find_on, unioned_on, join_on}
+use Rattle.rules.specs.Rules.{put_row, head_of, value, owner_of, range, said, Path, broken, to, from, path, Write, Memory, put, puts, memory_of}
+use Rattle.rules.specs.Rules.{full, merge, Plan, plan, Walked, go_on, walk, walk_both, settle, unite, too_high, find_on, unioned_on, join_on}
 use Rattle.rules.specs.Rules.{post_on, probe_on, probe_key_on, try_probe, innermost, unfit, stranded, not_innermost, seek, asked, snapshot, commit, since}
 use Rattle.rules.specs.Rules.{undoable, undo, Outcome, outcome, carry, resting, rollback, new, live, one, two, bad_table, not_live, call, step}
 use Rattle.rules.specs.declared.call.Call.TheVariants.{New, Len, Find, Unioned, Join, Post, Probe, ProbeKey, TryProbe, Snapshot, Rollback, Commit}
 use Rattle.rules.specs.declared.call.Call.TheVariants.{Keys, Actions, Changes}
 use Rattle.rules.specs.declared.table.UndoLog.TheVariants.{NewElem, SetElem, Unknown}
 use Rattle.rules.specs.declared.table.MergeError.TheVariants.{Clash, TooMuch}
+use Rattle.rules.proofs.PlanLaws.{rewrites_length}
 use Rattle.groups.specs.Acceptance.{MOST-LOGGED}
 use Rattle.groups.proofs.Tools.{on_cond}
 
@@ -34,14 +35,6 @@ path_short parents count (suc left) key =
     on_cond (Short (suc left)) (ltb key count)
     (λ _. on_cond (Short (suc left)) (eqb next key) (λ _. omega arith)
     (λ _. from_short left key (path parents count left next) (path_short parents count left next))) (λ _. tt)
-
--- "A walk of k ≥ 1 steps rewrites the parents of its first k − 1 rows".
-rewrites_length : (root : ℕ) (passed : List ℕ) → length (rewrites root passed) ≡ length passed - 1
-unfolding rewrites
-rewrites_length root [] = refl
-rewrites_length root (x ∷ []) = refl
-rewrites_length root (x ∷ y ∷ zs) =
-    length-append (rewrites root (y ∷ zs)) (redirect x root ∷ []) ∙ omega (arith, rewrites_length root (y ∷ zs))
 
 -- ---- a plan writes few rows
 

@@ -2,6 +2,7 @@
 use Rattle.std.specs.Prelude.{◌≡◌, ◌&&◌, ◌||◌, ◌∷◌, ◌++◌, ◌⊎◌, ◌≤◌, ◌<◌}
 use Rattle.kit.specs.Names.{refl, sym, ap, ◌∙◌, Bool, true, false, cond, not, true≢false, List, [], map, inl, inr, ℕ, suc, eqb, arith, le_refl, eqb-true}
 use Rattle.kit.specs.Names.{eq-eqb, ne_eqb}
+use Rattle.rules.proofs.TestLaws.{either_way}
 use Rattle.groups.specs.Groups.{Deed}
 use Rattle.groups.specs.Track.{Event, History, is_done, Act, idle, moves, takes, undoes, closes, act, deed_of}
 use Rattle.groups.specs.Track.{Saved, Track, dropped, restored, noted, track, newer, last_token, Innermost, Follows, Orderly}
@@ -128,10 +129,6 @@ due_on (undoes token) later t g p d = λ u q. one_of (eqb u token) (later u) q
 due_on (closes token) later t g p d = due_dropped later t g.saved d
 
 -- ---- both accounts of one call
-
-either_way : {A : Type 0} (b : Bool) (x : A) → cond b x x ≡ x
-either_way true x = refl
-either_way false x = refl
 
 -- `old` is what is left of the calls before, once it is known what this one undoes.
 agree_on : (a : Act) (later : ℕ → Bool) (t : ℕ) (g : Track) → Follows t g.saved a → Falls (suc t) g.saved

@@ -1,24 +1,27 @@
-ghost use Rattle.std.specs.Prelude.{◌≡◌, ◌≤◌, length, Some, IfSome};
+ghost use Rattle.std.specs.Prelude.{◌≡◌, Some, IfSome};
 ghost use Rattle.rules.specs.Rules.{MAX-REDIRECTS, path};
 ghost use Rattle.roots.specs.Trail.{traced, Short, compressed};
 
+use roots::live::Live;
 use roots::path::Trail;
 
 // The trail of `key` in the table as a walk from `a` along `first` leaves it, before that walk is made. From the first node that
 // lies on `first` it is one redirect to the root, or none where that node is the root.
-pub fn trace_after(parents: &[u32], count: u32, a: u32, first: Trail, key: u32) -> Option<Trail>
-    requires count_in_bounds { count ≤ length parents.now }
-    requires first_value { traced (Some first) ≡ path parents.now count MAX-REDIRECTS a }
+pub fn trace_after(live: Live<'_>, a: u32, first: Trail, key: u32) -> Option<Trail>
+    requires first_value { traced (Some first) ≡ path live.parents.now live.count MAX-REDIRECTS a }
     requires short { Short first }
-    ensures result_value { traced result ≡ path (compressed first parents.now) count MAX-REDIRECTS key }
+    ensures result_value { let l = live.entry in
+        traced result ≡ path (compressed first l.parents.now) l.count MAX-REDIRECTS key }
     ensures short_2 { IfSome result Short }
 {
+    let Live { parents, count } = live;
     let passed = &first.nodes[..first.steps];
     let root = first.nodes[first.steps];
     let mut nodes = [0u32; 17];
     let mut steps: usize = 0;
     let mut at = key;
-    // Loops left by a label are a form that the design of the table names (docs/ARCHITECTURE.md); a `for` would not keep `steps`.
+    // Nested loops, left by a label at the first meeting: document 01's form of "the first node of the second path that lies on the
+    // first". A `for` would not keep `steps` past the label.
     'walk: while at < count {
         nodes[steps] = at;
         for node in passed {

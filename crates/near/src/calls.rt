@@ -14,7 +14,6 @@ use roots::near::near_root;
 use rules::refusal::Refusal;
 use two_walks::plan::two_plan;
 
-#[tactic(auto, using(decisions::proofs::GoodLaws::table_parents))]
 fn near_two(table: GoodTable<'_>, a: u32, b: u32, call: TwoCall) -> Decision
     ensures { let t = table.entry in
         DecidedAnyhow (rows_seen t.seen) (log_seen t.seen) t.head (walk_call (Two a call b)) result }
@@ -23,10 +22,11 @@ fn near_two(table: GoodTable<'_>, a: u32, b: u32, call: TwoCall) -> Decision
     if a >= head.count || b >= head.count {
         return Decision::Near(refused(Refusal::NoKey, head));
     }
-    let Some(first) = near_root(seen.parents, head.count, a) else {
+    let live = table.live();
+    let Some(first) = near_root(live, a) else {
         return Decision::Far(WalkCall::Two(a, call, b));
     };
-    let Some(second) = near_root(seen.parents, head.count, b) else {
+    let Some(second) = near_root(live, b) else {
         return Decision::Far(WalkCall::Two(a, call, b));
     };
     let steps = first.steps + second.steps;

@@ -12,7 +12,6 @@ use plans::verdict::OneCall;
 use roots::near::near_root;
 use rules::refusal::Refusal;
 
-#[tactic(auto, using(decisions::proofs::GoodLaws::table_parents))]
 pub fn near_one(table: GoodTable<'_>, key: u32, call: OneCall) -> Decision
     ensures { let t = table.entry in
         DecidedAnyhow (rows_seen t.seen) (log_seen t.seen) t.head (walk_call (One key call)) result }
@@ -21,7 +20,7 @@ pub fn near_one(table: GoodTable<'_>, key: u32, call: OneCall) -> Decision
     if key >= head.count {
         return Decision::Near(refused(Refusal::NoKey, head));
     }
-    let Some(near) = near_root(seen.parents, head.count, key) else {
+    let Some(near) = near_root(table.live(), key) else {
         return Decision::Far(WalkCall::One(key, call));
     };
     let plan = one_plan(seen, call, near.root, near.steps);

@@ -4,7 +4,7 @@ ghost use Rattle.parts.specs.Bounds.{InRows};
 ghost use Rattle.plans.specs.Plans.{Inside, MadeOfOne};
 
 use makers::answer::{found, probed};
-use plans::verdict::{OneCall, Planned};
+use plans::verdict::{OneCall, Planned, Root};
 use post::plan::post_plan;
 use rows::rows::row_at;
 use rules::table::{Owner, Seen, Value};
@@ -26,12 +26,15 @@ pub fn one_plan(seen: Seen<'_>, call: OneCall, root: u32, steps: u32) -> Planned
             Planned::still(probed(root, Value::from(held), steps))
         }
         OneCall::Post(owner, amount) => {
-            let held = row_at(seen, root);
+            let root = Root {
+                key: root,
+                row: row_at(seen, root),
+            };
             let value = Value {
                 owner: Owner::from(owner),
                 amount,
             };
-            post_plan(held, root, steps, value)
+            post_plan(root, steps, value)
         }
     }
 }

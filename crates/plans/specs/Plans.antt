@@ -1,13 +1,14 @@
 -- A call's plan as the code has it, made of where its walks lead: what the rules make of the same walks.
 use Rattle.std.specs.Prelude.{◌≡◌, ◌∷◌, ◌++◌, ◌+◌, ◌-◌, ◌<◌, Result, Ok, Err}
 use Rattle.kit.specs.Names.{Bool, false, cond, List, [], ℕ, length, eqb, ltb}
-use Rattle.rules.specs.Rules.{Row, Value, Answer, Rows, value, owner_of, row_at, refusal, Write, redirect, crown, Plan, plan, Walked, find_on, unioned_on, join_on}
+use Rattle.rules.specs.Rules.{Value, Answer, Rows, value, owner_of, row_at, refusal, Write, redirect, crown, Plan, plan, Walked, find_on, unioned_on, join_on}
 use Rattle.rules.specs.Rules.{post_on, probe_on, probe_key_on, code_of, stepped, OWNER-CLASH, TOO-MUCH}
 use Rattle.rules.specs.declared.table.MergeError.{MergeError}
 use Rattle.rules.specs.declared.table.MergeError.TheVariants.{Clash, TooMuch}
 use Rattle.rules.specs.declared.refusal.Refusal.{Refusal}
 use Rattle.rules.specs.declared.refusal.Refusal.TheVariants.{LogFull}
 use Rattle.roots.specs.Saves.{with_parents}
+use Rattle.plans.specs.declared.verdict.Root.{Root}
 use Rattle.plans.specs.declared.verdict.Finish.{Finish}
 use Rattle.plans.specs.declared.verdict.Finish.TheVariants.{Nothing, Crown, Unite}
 use Rattle.plans.specs.declared.verdict.Planned.{Planned}
@@ -85,21 +86,21 @@ MadeOfTwo rs c a b s v =
     (ps ps' : List ℕ) (ws ws' : List Write) (sa sb : ℕ) → sa + sb ≡ s
     → plan_of (ws ++ ws') v ≡ two_on c (walked_to rs a sa ps ws) (walked_to rs b sb ps' ws')
 
--- A post at a root's row, and a join of two roots' rows.
-abbrev pub Posted : Row → ℕ → ℕ → Value → Verdict → Type 0
-Posted held root s w v =
-    (rs : Rows) → held ≡ row_at rs root → (ps : List ℕ) (ws : List Write) → plan_of ws v ≡ post_on w (walked_to rs root s ps ws)
+-- A post at a root, and a join of two.
+abbrev pub Posted : Root → ℕ → Value → Verdict → Type 0
+Posted r s w v =
+    (rs : Rows) → r.row ≡ row_at rs r.key → (ps : List ℕ) (ws : List Write) → plan_of ws v ≡ post_on w (walked_to rs r.key s ps ws)
 
-abbrev pub Joined : ℕ → Row → ℕ → Row → ℕ → Verdict → Type 0
-Joined a row-a b row-b s v =
-    (a ≡ b → ⊥) → (rs : Rows) → row-a ≡ row_at rs a → row-b ≡ row_at rs b → MadeOfTwo rs Join a b s v
+abbrev pub Joined : Root → Root → ℕ → Verdict → Type 0
+Joined a b s v =
+    (a.key ≡ b.key → ⊥) → (rs : Rows) → a.row ≡ row_at rs a.key → b.row ≡ row_at rs b.key → MadeOfTwo rs Join a.key b.key s v
 
 -- The roots united by their ranks, as `Plan.unite` has it.
-abbrev pub united : ℕ → ℕ → ℕ → ℕ → Value → List Write
-united a ra b rb v =
-    cond (ltb rb ra) (redirect b a ∷ crown a ra v ∷ [])
-    (cond (ltb ra rb) (redirect a b ∷ crown b rb v ∷ [])
-    (redirect a b ∷ crown b (rb + 1) v ∷ []))
+abbrev pub united : Root → Root → Value → List Write
+united a b v =
+    cond (ltb b.row.rank a.row.rank) (redirect b.key a.key ∷ crown a.key a.row.rank v ∷ [])
+    (cond (ltb a.row.rank b.row.rank) (redirect a.key b.key ∷ crown b.key b.row.rank v ∷ [])
+    (redirect a.key b.key ∷ crown b.key (b.row.rank + 1) v ∷ []))
 
 -- ---- room in the log
 

@@ -4,7 +4,14 @@ ghost use Rattle.plans.specs.Plans.{still, unmerged};
 use makers::answer::stepped;
 use rules::call::Answer;
 use rules::refusal::Refusal;
-use rules::table::{MergeError, Value};
+use rules::table::{MergeError, Row, Value};
+
+// A root that a walk led to, with its row.
+#[derive(Clone, Copy)]
+pub struct Root {
+    pub key: u32,
+    pub row: Row,
+}
 
 // What is written at the roots, after the walks.
 #[derive(Clone, Copy)]
@@ -39,10 +46,7 @@ impl Planned {
     pub fn unmerged(why: MergeError, steps: u32) -> Planned
         ensures { result ≡ unmerged why steps }
     {
-        let no = match why {
-            MergeError::Clash => Refusal::OwnerClash,
-            MergeError::TooMuch => Refusal::TooMuch,
-        };
+        let no = Refusal::from(why);
         Planned::still(stepped(no.code(), steps))
     }
 }

@@ -50,6 +50,7 @@ pub record Logging (m₀ : Memory) (nodes : List ℕ) (left₀ : ℕ) (m : Memor
   pub least : left ≤ left₀
   pub is : m ≡ saves (drop left (take (suc left₀) nodes)) m₀
   pub rows : m.rows ≡ m₀.rows
+  pub opened : m.opened ≡ m₀.opened
   pub logged : m.used + left ≡ m₀.used + left₀
   pub kept : length m.log ≡ length m₀.log
 
@@ -59,7 +60,7 @@ module _ (m₀ : Memory) (nodes : List ℕ) (left₀ : ℕ) (size : length nodes
 
   pub logging_starts : Logging m₀ nodes left₀ m₀ left₀
   logging_starts =
-      record { least = omega arith; is = saves_last (take (suc left₀) nodes) m₀ left₀ (sym long); rows = refl; logged = refl; kept = refl }
+      record { least = omega arith; is = saves_last (take (suc left₀) nodes) m₀ left₀ (sym long); rows = refl; opened = refl; logged = refl; kept = refl }
 
   module _ (m : Memory) (left : ℕ) (L : Logging m₀ nodes left₀ m left) (h : 0 < left) where
     -- the next row is logged
@@ -81,6 +82,7 @@ module _ (m₀ : Memory) (nodes : List ℕ) (left₀ : ℕ) (size : length nodes
               ∙ ap (λ (n : ℕ). saved n (saves (drop (suc (left - 1)) (take (suc left₀) nodes)) m₀)) (sym node)
               ∙ saves_more (take (suc left₀) nodes) m₀ (left - 1) (omega (arith, long));
           rows = ap (λ (x : Memory). x.rows) e ∙ L.rows;
+          opened = ap (λ (x : Memory). x.opened) e ∙ L.opened;
           logged = omega (arith, L.logged, u);
           kept = ap (λ (x : Memory). length x.log) e ∙ put_long m (redirect key 0) ∙ L.kept;
         }

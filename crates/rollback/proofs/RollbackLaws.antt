@@ -1,6 +1,7 @@
 -- What a rollback is at each of its ends, and what its functions ask of their callers. Assumes nothing.
-use Rattle.std.specs.Prelude.{◌≡◌, ◌||◌, ◌≤◌, None, Some}
+use Rattle.std.specs.Prelude.{◌≡◌, ◌≤◌, None, Some}
 use Rattle.kit.specs.Names.{refl, Bool, true, false, cond, not, List, ℕ, ltb, arith, ltb-false, not-false}
+use Rattle.std.proofs.lemmas.Bool.{or_parts}
 use Rattle.rules.specs.declared.call.Call.TheVariants.{Rollback}
 use Rattle.rules.specs.Rules.{Head, Mark, DONE, NOT-INNERMOST, BROKEN-TABLE, Rows, Log, table, entries, with_head, refusal, not_innermost, innermost, unfit, since}
 use Rattle.rules.specs.Rules.{undoable, undo, rolled_back, outcome, refused, sizes_of, bad, call, step}
@@ -12,10 +13,6 @@ use Rattle.rollback.proofs.UndoLaws.{undoable_rows}
 
 -- ---- what is refused before anything is undone
 
-neither : (a b : Bool) → (a || b) ≡ false → (a ≡ false) × (b ≡ false)
-neither true b q = (q, cc)
-neither false b q = (refl, q)
-
 module _ (h : Head) (m : Mark) (l : Log) where
   pub broken_unfit : unfit h m ≡ true → true ≡ broken h m l
   unfolding broken
@@ -26,11 +23,11 @@ module _ (h : Head) (m : Mark) (l : Log) where
   broken_fit u b q = rw (u, q)
 
   pub fit : unfit h m ≡ false → m.log_len ≤ h.used
-  fit u = ltb-false h.used m.log_len (neither (ltb h.used m.log_len) (ltb h.count m.keys) u).0
+  fit u = ltb-false h.used m.log_len (or_parts (ltb h.used m.log_len) (ltb h.count m.keys) u).0
 
   halves : broken h m l ≡ false → (unfit h m ≡ false) × (not (undoable m.keys h.count (since l h m)) ≡ false)
   unfolding broken
-  halves q = neither (unfit h m) (not (undoable m.keys h.count (since l h m))) q
+  halves q = or_parts (unfit h m) (not (undoable m.keys h.count (since l h m))) q
 
 -- ---- a table that is not bad: what `broken` and `undo` require
 

@@ -1,7 +1,8 @@
 -- Entries that are read and undone one at a time, newest first. Assumes nothing.
-use Rattle.std.specs.Prelude.{◌≡◌, ◌&&◌, ◌∷◌, ◌+◌, ◌-◌, ◌<◌, None, Some}
+use Rattle.std.specs.Prelude.{◌≡◌, ◌∷◌, ◌+◌, ◌-◌, ◌<◌, None, Some}
 use Rattle.kit.specs.Names.{refl, ap, sym, ◌∙◌, Bool, true, false, cond, List, [], ℕ, zero, suc, length, length-set, eqb, ltb, arith}
 use Rattle.kit.specs.Names.{eqb-true, ltb-true}
+use Rattle.std.proofs.lemmas.Bool.{and_parts}
 use Rattle.rules.specs.Rules.{UndoLog, Rows, Log, entry_at, newest_first, undoable, reversed, undo}
 use Rattle.rules.specs.declared.table.UndoLog.TheVariants.{NewElem, SetElem, Unknown}
 use Rattle.parts.specs.Bounds.{InRows, Undoing}
@@ -31,20 +32,16 @@ free false k n q = (cc, cc)
 
 -- ---- what can be undone changes only rows below the count
 
-both : (a b : Bool) → (a && b) ≡ true → (a ≡ true) × (b ≡ true)
-both true b q = (refl, q)
-both false b q = (q, cc)
-
 pub undoable_rows : (rs : Rows) (keys count : ℕ) (es : List UndoLog) → ((i : ℕ) → i < count → InRows i rs) → undoable keys count es ≡ true
     → Reversible rs es
 unfolding undoable Reversible
 undoable_rows rs keys count [] r q = tt
 undoable_rows rs keys count (NewElem key ∷ es) r q =
-    let p = both (eqb (key + 1) count) (undoable keys key es) q in
+    let p = and_parts (eqb (key + 1) count) (undoable keys key es) q in
     let k = eqb-true (key + 1) count p.0 in
     (tt, undoable_rows rs keys key es (λ i h. r i (omega (arith, k, h))) p.1)
 undoable_rows rs keys count (SetElem key old ∷ es) r q =
-    let p = both (ltb key count) (undoable keys count es) q in
+    let p = and_parts (ltb key count) (undoable keys count es) q in
     (r key (ltb-true key count p.0), undoable_rows rs keys count es r p.1)
 undoable_rows rs keys count (Unknown ∷ es) r q = let z : ◌≡◌ {A = ℕ} 0 1 = cc in absurd (omega arith)
 
@@ -107,10 +104,6 @@ pub record Undone (before now : Rows) (l : Log) (base used i : ℕ) : Type 0 whe
   pub as_long : AsLong now before
   pub reversible : Reversible before (newest_first l base (i - base))
   pub undone : undo before (newest_first l base (used - base)) ≡ undo now (newest_first l base (i - base))
-
-pub none_undone : (rs : Rows) (l : Log) (base used : ℕ) → Reversible rs (newest_first l base (used - base)) → Undone rs rs l base used used
-none_undone rs l base used r =
-    record { as_long = record { parents = refl; crowns = refl; amounts = refl }; reversible = r; undone = refl }
 
 module _ (before now : Rows) (l : Log) (base used i : ℕ) (u : Undone before now l base used i) where
   pub all_undone : i - base ≡ 0 → now ≡ undo before (newest_first l base (used - base))

@@ -1,6 +1,6 @@
 -- What a walk's writes leave: of the rows, the parents; of the log, the old rows. Assumes nothing.
 use Rattle.std.specs.Prelude.{◌≡◌, ◌∷◌, ◌++◌, ◌-◌}
-use Rattle.kit.specs.Names.{refl, ap, sym, ◌∙◌, List, [], ℕ, length, get_or, set, length-append, arith}
+use Rattle.kit.specs.Names.{refl, ap, sym, ◌∙◌, List, [], ℕ, get_or, set}
 use Rattle.rules.specs.declared.table.UndoLog.TheVariants.{SetElem}
 use Rattle.rules.specs.Rules.{Rows, row_at, to, path, Write, redirect, write, writes, Memory, memory, logged, put, puts, rewrites}
 use Rattle.rules.proofs.RowLaws.{write_redirect}
@@ -18,14 +18,6 @@ pub puts_append : (m : Memory) (ws vs : List Write) → puts m (ws ++ vs) ≡ pu
 unfolding puts
 puts_append m [] vs = refl
 puts_append m (x ∷ ws) vs = puts_append (put m x) ws vs
-
-pub rewrites_length : (root : ℕ) (passed : List ℕ) → length (rewrites root passed) ≡ length passed - 1
-unfolding rewrites
-rewrites_length root [] = refl
-rewrites_length root (k ∷ []) = refl
-rewrites_length root (k ∷ next ∷ passed) =
-    let h = rewrites_length root (next ∷ passed) in
-    length-append (rewrites root (next ∷ passed)) (redirect k root ∷ []) ∙ omega arith
 
 -- the rows after a walk: other parents, and all else as it was
 pub rows_after : (rs : Rows) (root : ℕ) (passed : List ℕ) → writes rs (rewrites root passed) ≡ with_parents rs (compress root passed rs.parents)

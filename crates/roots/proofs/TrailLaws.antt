@@ -6,7 +6,8 @@ use Rattle.roots.specs.declared.path.Trail.{Trail}
 use Rattle.roots.specs.Saves.{with_parents}
 use Rattle.roots.specs.Trail.{root_of, passed_of, traced, compressed, walk_of, Short, Sound, Idle}
 use Rattle.roots.proofs.AfterLaws.{path_cons, root_in_lem}
-use Rattle.roots.proofs.RewriteLaws.{rows_after, rewrites_length}
+use Rattle.rules.proofs.PlanLaws.{rewrites_length}
+use Rattle.roots.proofs.RewriteLaws.{rows_after}
 
 pub trail_length : (t : Trail) → Short t → length (passed_of t) ≡ t.steps
 trail_length t h = rw length-take (omega arith)

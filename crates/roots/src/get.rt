@@ -21,8 +21,8 @@ pub fn inlined_get_root_key(parents: &mut [u32], count: u32, left: u32, vid: u32
     root
 }
 
-// The same walk with one redirect less, for `inlined_get_root_key` to come back to. Two functions and no loop: ena's pair is a form
-// that the design of the table names (docs/ARCHITECTURE.md).
+// The same walk with one redirect less, for `inlined_get_root_key` to come back to. Two functions in a cycle, and no loop: document
+// 01's form of ena's pair.
 #[cycle(inlined_get_root_key_uninlined_get_root_key)]
 fn uninlined_get_root_key(parents: &mut [u32], count: u32, left: u32, vid: u32) -> u32
     requires { (0 < left) × Leads parents.old count (left - 1) vid }

@@ -2,5 +2,6 @@
 #![tactic(auto)]
 
 pub mod get;
+pub mod live;
 pub mod near;
 pub mod path;

@@ -1,5 +1,7 @@
-ghost use Rattle.std.specs.Prelude.{◌≡◌, ◌≤◌, ◌<◌, length};
+ghost use Rattle.std.specs.Prelude.{◌≡◌, ◌<◌};
 ghost use Rattle.roots.specs.Near.{near_of};
+
+use crate::live::Live;
 
 // Where a walk of at most one redirect leads.
 #[derive(Clone, Copy)]
@@ -9,11 +11,12 @@ pub struct Near {
 }
 
 // The walk of a live key, where it has at most one redirect: nearly all walks are such, and rewrite nothing.
-pub fn near_root(parents: &[u32], count: u32, key: u32) -> Option<Near>
-    requires count_in_bounds { count ≤ length parents.now }
-    requires key_lt_count { key < count }
-    ensures { result ≡ near_of parents.now count key }
+pub fn near_root(live: Live<'_>, key: u32) -> Option<Near>
+    requires { key < live.count }
+    ensures { let l = live.entry in
+        result ≡ near_of l.parents.now l.count key }
 {
+    let Live { parents, count } = live;
     let next = parents[key as usize];
     if next == key {
         return Some(Near {

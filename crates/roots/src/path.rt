@@ -1,8 +1,11 @@
-ghost use Rattle.std.specs.Prelude.{◌≡◌, ◌≤◌, length, IfSome};
+ghost use Rattle.std.specs.Prelude.{◌≡◌, IfSome};
 ghost use Rattle.rules.specs.Rules.{MAX-REDIRECTS, path};
 ghost use Rattle.roots.specs.Trail.{traced, Short};
 
-// The rows from a key to its root, both among them: `nodes[steps]` is the root.
+use crate::live::Live;
+
+// The rows from a key to its root, both among them: `nodes[steps]` is the root. An array and a number, and no `Vec`: a walk has no heap,
+// and an allocation could fail where nothing may.
 #[derive(Clone, Copy)]
 pub struct Trail {
     pub steps: usize,
@@ -10,11 +13,12 @@ pub struct Trail {
 }
 
 // Follows the parents of `key` for at most 16 redirects, and writes nothing.
-pub fn trace(parents: &[u32], count: u32, key: u32) -> Option<Trail>
-    requires { count ≤ length parents.now }
-    ensures result_value { traced result ≡ path parents.now count MAX-REDIRECTS key }
+pub fn trace(live: Live<'_>, key: u32) -> Option<Trail>
+    ensures result_value { let l = live.entry in
+        traced result ≡ path l.parents.now l.count MAX-REDIRECTS key }
     ensures short { IfSome result Short }
 {
+    let Live { parents, count } = live;
     let mut nodes = [0u32; 17];
     let mut at = key;
     for steps in 0..17 {

@@ -5,3 +5,5 @@ pub mod EntryLaws
 pub mod StateLaws
 pub mod ReadLaws
 pub mod MergeLaws
+pub mod PlanLaws
+pub mod TestLaws

@@ -91,10 +91,3 @@ module _ (z : Sizes) (h : Head) where
         opened = ltb-false MAX-OPEN h.«open» f.1.1.1.1.1.1.1.0;
         shut = unused h.«open» h.used f.1.1.1.1.1.1.1.1.0;
       }
-
-  pub not_good : (Good z h → ⊥) → bad z h ≡ true
-  not_good n = go (bad z h) refl
-    where
-      go : (b : Bool) → bad z h ≡ b → bad z h ≡ true
-      go true e = e
-      go false e = absurd (n (bad_good e))

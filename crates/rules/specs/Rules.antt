@@ -34,7 +34,7 @@ pub use Rattle.rules.specs.Refusal.{Outcome, outcome, refused, refuse, carry, Si
 unfoldable pub use Rattle.rules.specs.Refusal.{bad}
 pub use Rattle.rules.specs.Step.{not_live, new, live, one, two, resting, rollback}
 unfoldable pub use Rattle.rules.specs.Step.{call, step}
-pub use Rattle.rules.specs.Refused.{code_of}
+pub use Rattle.rules.specs.Refused.{code_of, refused_merge}
 pub use Rattle.rules.specs.Contract.{rows_lent, memory_lent, table_lent, rows_in, log_in, memory_in, table_in, rows_seen, log_seen, table_seen, SameParts, outcome_of}
 
 abbrev pub Owner : Type 0

@@ -20,8 +20,8 @@ pub enum Call {
     Changes(u64),
 }
 
-// What every call answers. What a call has nothing to say of is as in a refusal. All of it is numbers that C reads, the number of refusal
-// and `yes` too; inside the code a refusal is a `Refusal`.
+// What every call answers. What a call has nothing to say of is as in a refusal. All of it is numbers that C reads, `yes` too. The number of
+// refusal stands beside the rest, and is no `Err`: OWNER_CLASH and TOO_MUCH answer steps, and keep what their walks wrote, as DONE does.
 #[derive(Clone, Copy)]
 pub struct Answer {
     pub no: u32,

@@ -1,9 +1,10 @@
-// What is made of what: an owner of its lent number and back, the value of a row, the head of a state, the lent parts
-// to be read.
+// What is made of what: an owner of its lent number and back, the value of a row, the refusal of a merge that failed, the head of a state, the
+// lent parts to be read.
 ghost use Rattle.std.specs.Prelude.{◌≡◌};
-ghost use Rattle.rules.specs.Rules.{owner_of, number_of, value_of, head_of};
+ghost use Rattle.rules.specs.Rules.{owner_of, number_of, value_of, refused_merge, head_of};
 
-use crate::table::{Head, Lent, Owner, Row, Seen, State, Value};
+use crate::refusal::Refusal;
+use crate::table::{Head, Lent, MergeError, Owner, Row, Seen, State, Value};
 
 // "Owner 0, in lent numbers or in a call, means none."
 impl From<u32> for Owner {
@@ -35,6 +36,17 @@ impl From<Row> for Value {
         Value {
             owner: row.owner,
             amount: row.amount,
+        }
+    }
+}
+
+impl From<MergeError> for Refusal {
+    ghost from_gives = { λ why refusal. refusal ≡ refused_merge why };
+
+    fn from(why: MergeError) -> Refusal {
+        match why {
+            MergeError::Clash => Refusal::OwnerClash,
+            MergeError::TooMuch => Refusal::TooMuch,
         }
     }
 }

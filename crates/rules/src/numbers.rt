@@ -23,13 +23,6 @@ pub const MAX_U64: u64 = u64::MAX;
 // What is answered where nothing is refused. The refusals are in `refusal`.
 pub const DONE: u32 = 0;
 
-pub const LOG_FULL: u32 = 3;
-
-// Document 02, Q-1.
-pub const BAD_JOURNAL: u32 = 12;
-
-pub const NO_ROOM: u32 = 16;
-
 // The kinds of log entries. Every other number is of no known kind: the host lends them, and a view shows any, so they stay numbers.
 pub const KIND_UNKNOWN: u32 = 0;
 

@@ -11,8 +11,9 @@ use rules::call::Call;
 use rules::table::{Lent, Seen};
 use undo_log::tokens::{HeadCall, Settled};
 
-// Carries out any call where nothing is bad, for every state with this outline. That nothing is bad stays a clause where the parts are
-// lent to be written: a `GoodTable` of them would have to hold anew after each write, and is no plainer.
+// Carries out any call where nothing is bad, for every state with this outline. That nothing is bad stays a clause here and in
+// `writes::long::far`: a type of the parts with that fact would be made for these two, which take it apart at once, first to read the
+// parts, as `GoodTable`, and then to write them.
 pub fn call_good(lent: &mut Lent<'_>, outline: Outline, call: Call) -> Settled
     requires { bad (sizes_of (rows_in lent.old) (log_in lent.old)) outline.head ≡ false }
     ensures same_parts { SameParts lent.old lent.new }

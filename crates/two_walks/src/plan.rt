@@ -5,7 +5,7 @@ ghost use Rattle.plans.specs.Plans.{Inside, MadeOfTwo};
 
 use join::plan::join_roots;
 use makers::answer::{said, stepped};
-use plans::verdict::{Planned, TwoCall};
+use plans::verdict::{Planned, Root, TwoCall};
 use rows::rows::row_at;
 use rules::numbers::DONE;
 use rules::refusal::Refusal;
@@ -30,9 +30,15 @@ pub fn two_plan(
             if a == b {
                 return Ok(Planned::still(stepped(DONE, steps)));
             }
-            let row_a = row_at(seen, a);
-            let row_b = row_at(seen, b);
-            join_roots(a, row_a, b, row_b, steps)
+            let root_a = Root {
+                key: a,
+                row: row_at(seen, a),
+            };
+            let root_b = Root {
+                key: b,
+                row: row_at(seen, b),
+            };
+            join_roots(root_a, root_b, steps)
         }
     }
 }

@@ -24,11 +24,6 @@ module _ (s : State) (a : Answer) where
   pub after_kept : state_after s (settled a (head_of s)) ≡ s
   after_kept = after_moved (head_of s) (omega arith)
 
--- A question about a mark that is there.
-pub asked_fit : (h : Head) (reply : Mark → Answer) (s : Sought) (m : Mark) (a : Answer) (r : Settled) → s ≡ Some m → a ≡ reply m
-    → r ≡ refuse_head (unfit h m) BROKEN-TABLE h (settled a h) → r ≡ asked_on h reply s
-asked_fit h reply s m a r there e q = rw there (q ∙ ap (λ (x : Answer). refuse_head (unfit h m) BROKEN-TABLE h (settled x h)) e)
-
 abbrev settle : State → Settled → Answered
 settle s r = answered r.answer (state_after s r)
 

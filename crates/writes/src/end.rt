@@ -4,6 +4,7 @@ ghost use Rattle.decisions.specs.End.{ended_with, end_by, Endable};
 
 use decisions::todo::{End, Todo, new_row, with_used};
 use rules::table::Lent;
+use snapshot_vec::update::SnapshotVec;
 use undo_log::tokens::Settled;
 
 // Writes what a decided call writes: the one place that does, but for long walks.
@@ -17,13 +18,22 @@ pub fn end(lent: &mut Lent<'_>, count: u32, todo: Todo) -> Settled
     match end {
         End::Nothing => settled,
         End::Rows(finish) => {
-            let used = enact::plan::finish(lent, count, head.open, head.used, finish);
-            with_used(settled, used)
+            let mut values = SnapshotVec {
+                lent,
+                opened: head.open,
+                used: head.used,
+            };
+            enact::plan::finish(&mut values, count, finish);
+            with_used(settled, values.used)
         }
         End::Push(key, value) => {
-            let row = new_row(key, value);
-            let used = snapshot_vec::update::push(lent, head.open, head.used, key, row);
-            with_used(settled, used)
+            let mut values = SnapshotVec {
+                lent,
+                opened: head.open,
+                used: head.used,
+            };
+            values.push(key, new_row(key, value));
+            with_used(settled, values.used)
         }
         End::Undo(used) => {
             undoing::undo::undo(lent, head.used, used);

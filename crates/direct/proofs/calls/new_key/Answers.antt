@@ -2,7 +2,7 @@
 use Rattle.std.proofs.Common.{◌≡◌, true, false, arith, rules}
 use Rattle.rules.specs.Rules.{rows_seen, log_seen, entries}
 use Rattle.plans.specs.Plans.{lacks}
-use Rattle.decisions.proofs.FitLaws.{good_used, good}
+use Rattle.decisions.proofs.FitLaws.{good}
 use Rattle.direct.proofs.DirectLaws.{new_keys_full, new_log_full, new_done}
 use Rattle.direct.proofs.calls.new_key.Goals as goal
 
@@ -11,9 +11,6 @@ returns-then-head-seen c last m =
     let a = c.args in
     rw c.refused.ensures
     (new_keys_full (rows_seen a.table.seen) (log_seen a.table.seen) a.table.head last m a.table.good a.owner a.amount c.if-head-seen.true)
-
-pub lacks-requires : goal.lacks-requires
-lacks-requires c = let a = c.args in good_used (rows_seen a.table.seen) (log_seen a.table.seen) a.table.head a.table.good
 
 pub returns-then-lacks : goal.returns-then-lacks
 returns-then-lacks c last m =

@@ -5,7 +5,7 @@ use Rattle.kit.specs.Names.{refl, sym, ◌∙◌}
 use Rattle.rules.specs.Rules.{rows_seen, log_seen}
 use Rattle.roots.specs.Trail.{root_of}
 use Rattle.roots.proofs.TrailLaws.{trail_root}
-use Rattle.decisions.proofs.GoodLaws.{table_row}
+use Rattle.decisions.proofs.GoodLaws.{table_row, live_path}
 use Rattle.far.proofs.FarLaws.{one_lost, one_planned}
 use Rattle.far.proofs.plan.far_one.Goals as goal
 
@@ -13,7 +13,9 @@ pub returns-in_default : goal.returns-in_default
 returns-in_default c =
     let a = c.args in
     let t = a.table in
-    one_lost (rows_seen t.seen) (log_seen t.seen) t.head t.good a.key c.requires a.call c.in_default.ensures.result_value
+    let v = c.live in
+    one_lost (rows_seen t.seen) (log_seen t.seen) t.head t.good a.key c.requires a.call
+    (c.in_default.ensures.result_value ∙ live_path t v.result v.ensures.parents v.ensures.count a.key)
 
 pub one_plan-plan-requires : goal.one_plan-plan-requires
 one_plan-plan-requires c =
@@ -21,8 +23,10 @@ one_plan-plan-requires c =
     let t = a.table in
     let rs = rows_seen t.seen in
     let f = c.in-Some in
+    let v = c.live in
+    let is = f.ensures.result_value ∙ live_path t v.result v.ensures.parents v.ensures.count a.key in
     table_row t (root_of f.first)
-    (trail_root rs.parents t.head.count f.first a.key f.ensures.result_value f.ensures.short)
+    (trail_root rs.parents t.head.count f.first a.key is f.ensures.short)
 
 pub returns-in_err-plan : goal.returns-in_err-plan
 returns-in_err-plan c =
@@ -30,12 +34,14 @@ returns-in_err-plan c =
     let t = a.table in
     let rs = rows_seen t.seen in
     let f = c.in-Some in
+    let v = c.live in
+    let is = f.ensures.result_value ∙ live_path t v.result v.ensures.parents v.ensures.count a.key in
     let p = c.one_plan-plan in
-    let root = trail_root rs.parents t.head.count f.first a.key f.ensures.result_value f.ensures.short in
+    let root = trail_root rs.parents t.head.count f.first a.key is f.ensures.short in
     let same : c.from_residual.result ≡ Err c.in_err-plan.field-0.0 = search rules in
     rw same
     (one_planned rs (log_seen t.seen) t.head t.good a.key c.requires a.call f.first (record { steps = 0; nodes = f.first.nodes })
-    f.ensures.result_value f.ensures.short (record { steps = refl; size = f.ensures.short.size }) (Ok p.result) _ p.ensures.fact
+    is f.ensures.short (record { steps = refl; size = f.ensures.short.size }) (Ok p.result) _ p.ensures.fact
     (p.ensures.by_index t.head.count root) _ c.saturating_sub.ensures (sym c.in_err-plan.was ∙ c.fitted.ensures))
 
 pub returns : goal.returns
@@ -44,8 +50,10 @@ returns c =
     let t = a.table in
     let rs = rows_seen t.seen in
     let f = c.in-Some in
+    let v = c.live in
+    let is = f.ensures.result_value ∙ live_path t v.result v.ensures.parents v.ensures.count a.key in
     let p = c.one_plan-plan in
-    let root = trail_root rs.parents t.head.count f.first a.key f.ensures.result_value f.ensures.short in
-    one_planned rs (log_seen t.seen) t.head t.good a.key c.requires a.call f.first c.idle.result f.ensures.result_value f.ensures.short
+    let root = trail_root rs.parents t.head.count f.first a.key is f.ensures.short in
+    one_planned rs (log_seen t.seen) t.head t.good a.key c.requires a.call f.first c.idle.result is f.ensures.short
     c.idle.ensures (Ok p.result) (Ok c.in_ok-plan.plan) p.ensures.fact (p.ensures.by_index t.head.count root) _ c.saturating_sub.ensures
     (sym c.in_ok-plan.was ∙ c.fitted.ensures)

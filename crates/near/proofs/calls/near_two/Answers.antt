@@ -1,8 +1,6 @@
 -- Both walks are found where `near_root` says so, and what is made of them is decided by `NearCalls`.
-use Rattle.kit.specs.Names.{sym, ◌∙◌}
 use Rattle.rules.specs.Rules.{rows_seen, log_seen}
-use Rattle.roots.proofs.NearLaws.{near_found}
-use Rattle.decisions.proofs.GoodLaws.{table_row}
+use Rattle.decisions.proofs.GoodLaws.{table_row, live_near}
 use Rattle.near_one.proofs.NearCalls.{two_refused_first, two_refused_second, two_decided}
 use Rattle.near.proofs.calls.near_two.Goals as goal
 use Rattle.near.proofs.calls.near_two.Goals.{then-a-head-via-then-a-head, then-a-head-via-else-a-head+then-b-head}
@@ -25,7 +23,8 @@ two_plan-plan-requires-clause-in_rows c =
     let t = a.table in
     let rs = rows_seen t.seen in
     let n = c.in-Some.first in
-    let first = near_found rs.parents t.head.count a.a c.if-a-head.false n (sym c.near_root.ensures ∙ c.in-Some.is) in
+    let v = c.live-live in
+    let first = live_near t v.result v.ensures.parents v.ensures.count a.a c.if-a-head.false c.near_root.result n c.near_root.ensures c.in-Some.is in
     table_row t n.root first.root
 
 pub two_plan-plan-requires-clause-in_rows_2 : goal.two_plan-plan-requires-clause-in_rows_2
@@ -34,7 +33,9 @@ two_plan-plan-requires-clause-in_rows_2 c =
     let t = a.table in
     let rs = rows_seen t.seen in
     let n = c.in-Some-near_root.second in
-    let second = near_found rs.parents t.head.count a.b c.if-b-head.false n (sym c.near_root-2.ensures ∙ c.in-Some-near_root.is) in
+    let v = c.live-live in
+    let second =
+    live_near t v.result v.ensures.parents v.ensures.count a.b c.if-b-head.false c.near_root-2.result n c.near_root-2.ensures c.in-Some-near_root.is in
     table_row t n.root second.root
 
 pub returns : goal.returns
@@ -45,8 +46,10 @@ returns c last m =
     let n = c.in-Some.first in
     let k = c.in-Some-near_root.second in
     let p = c.two_plan-plan in
-    let first = near_found rs.parents t.head.count a.a c.if-a-head.false n (sym c.near_root.ensures ∙ c.in-Some.is) in
-    let second = near_found rs.parents t.head.count a.b c.if-b-head.false k (sym c.near_root-2.ensures ∙ c.in-Some-near_root.is) in
+    let v = c.live-live in
+    let first = live_near t v.result v.ensures.parents v.ensures.count a.a c.if-a-head.false c.near_root.result n c.near_root.ensures c.in-Some.is in
+    let second =
+    live_near t v.result v.ensures.parents v.ensures.count a.b c.if-b-head.false c.near_root-2.result k c.near_root-2.ensures c.in-Some-near_root.is in
     rw (c.from_verdict.ensures, c.fitted.ensures)
     (two_decided rs (log_seen t.seen) t.head last m t.good a.a a.b a.call c.if-a-head.false c.if-b-head.false n k first second p.result
     p.ensures.fact p.ensures.by_index)

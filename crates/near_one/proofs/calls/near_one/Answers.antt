@@ -1,9 +1,7 @@
 -- The walk is found where `near_root` says so, and what is made of it is decided by `NearCalls`.
-use Rattle.kit.specs.Names.{sym, ◌∙◌}
 use Rattle.std.specs.Prelude.{Ok}
 use Rattle.rules.specs.Rules.{rows_seen, log_seen}
-use Rattle.roots.proofs.NearLaws.{near_found}
-use Rattle.decisions.proofs.GoodLaws.{table_row}
+use Rattle.decisions.proofs.GoodLaws.{table_row, live_near}
 use Rattle.near_one.proofs.NearCalls.{one_refused, one_decided}
 use Rattle.near_one.proofs.calls.near_one.Goals as goal
 
@@ -19,7 +17,8 @@ one_plan-plan-requires c =
     let t = a.table in
     let rs = rows_seen t.seen in
     let n = c.in-Some.near in
-    let found = near_found rs.parents t.head.count a.key c.if-key-head.false n (sym c.near_root.ensures ∙ c.in-Some.is) in
+    let v = c.live in
+    let found = live_near t v.result v.ensures.parents v.ensures.count a.key c.if-key-head.false c.near_root.result n c.near_root.ensures c.in-Some.is in
     table_row t n.root found.root
 
 pub returns : goal.returns
@@ -29,6 +28,7 @@ returns c last m =
     let rs = rows_seen t.seen in
     let n = c.in-Some.near in
     let p = c.one_plan-plan in
-    let found = near_found rs.parents t.head.count a.key c.if-key-head.false n (sym c.near_root.ensures ∙ c.in-Some.is) in
+    let v = c.live in
+    let found = live_near t v.result v.ensures.parents v.ensures.count a.key c.if-key-head.false c.near_root.result n c.near_root.ensures c.in-Some.is in
     rw (c.from_verdict.ensures, c.fitted.ensures)
     (one_decided rs (log_seen t.seen) t.head last m t.good a.key a.call c.if-key-head.false n found (Ok p.result) p.ensures.fact p.ensures.by_index)

@@ -5,4 +5,4 @@ use Rattle.one_walk.proofs.plan.one_plan.Goals as goal
 pub returns-in-Post-clause-fact : goal.returns-in-Post-clause-fact
 returns-in-Post-clause-fact c =
     rw (c.in-Post.is, ← c.from-in-Post.ensures)
-    (c.post_plan.ensures.posted (rows_seen c.args.seen) c.row_at-held-in-Post.ensures)
+    (c.post_plan.ensures.posted (rows_seen c.args.seen) c.row_at.ensures)

@@ -5,5 +5,5 @@ use Rattle.two_walks.proofs.plan.two_plan.Goals as goal
 pub returns-else-a-b-clause-fact : goal.returns-else-a-b-clause-fact
 returns-else-a-b-clause-fact c =
     rw c.in-Join.is
-    (c.join_roots.ensures.joined c.if-a-b.false (rows_seen c.args.seen) c.row_at-row_a.ensures
-    c.row_at-row_b.ensures)
+    (c.join_roots.ensures.joined c.if-a-b.false (rows_seen c.args.seen) c.row_at.ensures
+    c.row_at-in-Join.ensures)

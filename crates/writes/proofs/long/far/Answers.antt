@@ -1,6 +1,7 @@
 -- The plan is refused, or carried out.
-use Rattle.rules.specs.Rules.{rows_in, log_in, memory_in}
+use Rattle.rules.specs.Rules.{rows_in, log_in}
 use Rattle.decisions.specs.Sorted.{walk_call}
+use Rattle.decisions.specs.End.{ended_with}
 use Rattle.writes.proofs.FarCalls.{far_refused, far_carried}
 use Rattle.writes.proofs.long.far.Goals as goal
 
@@ -14,7 +15,12 @@ returns-in-Err-clause-value c =
 pub returns-in-Ok-clause-value : goal.returns-in-Ok-clause-value
 returns-in-Ok-clause-value c =
     let a = c.args in
-    let used = c.enact-used in
     let s = c.seen.ensures in
+    let out = c.carry_out in
     far_carried (rows_in a.lent.now) (log_in a.lent.now) a.head (walk_call a.call) c.in-Ok.far (rw (c.in-Ok.is, s.parents, s.crowns, s.amounts, s.log) at c.far_plan.ensures)
-    (memory_in used.new.lent a.head.«open» used.result) used.ensures.value c.with_used.result c.with_used.ensures
+    (ended_with (rows_in out.new.lent) (log_in out.new.lent) out.result) out.ensures.value
+
+pub carry_out-requires : goal.carry_out-requires
+carry_out-requires c =
+    let s = c.seen.ensures in
+    (rw (c.in-Ok.is, s.parents, s.crowns, s.amounts, s.log) at c.far_plan.ensures).1
