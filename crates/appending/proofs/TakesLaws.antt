@@ -2,6 +2,7 @@
 use Rattle.std.specs.Prelude.{◌≡◌, ◌||◌, ◌&&◌, ◌∷◌, ◌++◌, ◌+◌, ◌*◌, ◌/◌, ◌≤◌, ◌<◌}
 use Rattle.kit.specs.Names.{refl, sym, ap, ◌∙◌, Bool, true, false, not, List, [], ℕ, suc}
 use Rattle.kit.specs.Names.{length, take, eqb, leb, ltb, arith, lt-ltb, le-ltb, ltb-true, ltb-false, leb-true, eqb-true}
+use Rattle.std.proofs.lemmas.Bool.{and_parts}
 use mathlib.Core.Bool.{and-false}
 use Rattle.rules.specs.Rules.{WORD}
 use Rattle.journal.specs.declared.entry.Entry.{Entry}
@@ -11,7 +12,6 @@ use Rattle.journal.specs.Entry.{Bytes}
 use Rattle.journal.specs.Journal.{Journal, no_journal, journal, journal_of, is_journal, valid}
 use Rattle.journal.specs.Append.{segments_of, fills, entries_in, segment}
 use Rattle.journal.proofs.ByteLaws.{count_entries}
-use Rattle.journal.proofs.ReadLaws.{both}
 use Rattle.journal.proofs.AppendLaws.{valid_with}
 use Rattle.valid.specs.declared.window.Window.{Window}
 use Rattle.valid.specs.Window.{Small, moved, narrow, narrowed}
@@ -31,8 +31,8 @@ module _ (long : ℕ) where
 
   pub filling : fills_by long ≡ true → Filling
   filling e =
-      let few = both (eqb long (ENTRY-BYTES * count) && leb 1 count) (leb count SEGMENT) e in
-      let whole = both (eqb long (ENTRY-BYTES * count)) (leb 1 count) few.0 in
+      let few = and_parts (eqb long (ENTRY-BYTES * count) && leb 1 count) (leb count SEGMENT) e in
+      let whole = and_parts (eqb long (ENTRY-BYTES * count)) (leb 1 count) few.0 in
       record { whole = eqb-true long (ENTRY-BYTES * count) whole.0; few = leb-true count SEGMENT few.1 }
 
 -- ---- Bool
@@ -144,11 +144,11 @@ module _ (buffer : Bytes) (used : ℕ) (entries : Bytes) where
   taken e =
       let a = all_three beyond (valid before) (with_it (journal_of before)) e in
       let inside = ltb-false (length buffer) used a.0 in
-      let filled = (both (fills entries) (valid (before ++ segment (segments_of (journal_of before)) entries)) a.2).0 in
+      let filled = (and_parts (fills entries) (valid (before ++ segment (segments_of (journal_of before)) entries)) a.2).0 in
       record {
         inside = inside;
         filled = filled;
-        numbered = ltb-true told WORD (both (ltb told WORD) (followed_by (window entries) (journal_of before)) (sym (says inside filled) ∙ e)).0;
+        numbered = ltb-true told WORD (and_parts (ltb told WORD) (followed_by (window entries) (journal_of before)) (sym (says inside filled) ∙ e)).0;
         as_many = go (journal_of before) refl a.1;
       }
     where

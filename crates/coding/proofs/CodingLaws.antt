@@ -4,6 +4,7 @@ use Rattle.kit.specs.Names.{refl, sym, ap, ◌∙◌, Bool, true, false, cond, L
 use Rattle.kit.specs.Names.{arith, dec_lt, add-one, ltb-true, leb-true, lt-ltb, le-ltb, le-leb, lt-leb}
 use Rattle.std.specs.List.{list_all}
 use Rattle.std.specs.Simd.{first_chunks}
+use Rattle.std.proofs.lemmas.Bool.{and_parts}
 use Rattle.rules.specs.Rules.{Call, WORD}
 use Rattle.coding.specs.declared.coding.Form.{Form}
 use Rattle.coding.specs.declared.coding.Limits.{Limits}
@@ -16,10 +17,6 @@ picked : (b : Bool) (c : Call) → is_asked (cond b (asked c) nothing) ≡ b
 picked true c = refl
 picked false c = refl
 
-both : (x y : Bool) → x && y ≡ true → (x ≡ true) × (y ≡ true)
-both true y e = (refl, e)
-both false y e = absurd (let z : ◌≡◌ {A = ℕ} 0 1 = cc in omega arith)
-
 module _ (code a b c : ℕ) where
   pub is_asked_lem : is_asked (asked_of code a b c) ≡ ltb code CODES && fits (form_of code a b c).0 a b c
   unfolding asked_of
@@ -31,7 +28,7 @@ module _ (code a b c : ℕ) where
 
   module _ (e : is_asked (asked_of code a b c) ≡ true) where
     tests : (ltb code CODES ≡ true) × (fits (form_of code a b c).0 a b c ≡ true)
-    tests = both (ltb code CODES) (fits (form_of code a b c).0 a b c) (sym is_asked_lem ∙ e)
+    tests = and_parts (ltb code CODES) (fits (form_of code a b c).0 a b c) (sym is_asked_lem ∙ e)
 
     pub known : code < CODES
     known = ltb-true code CODES tests.0
@@ -66,22 +63,13 @@ module _ (code a b c : ℕ) where
     pub token_alone : b ≤ UNUSED → leb c UNUSED ≡ is_asked (asked_of code a b c)
     token_alone m = sym (ap (λ (x : Bool). x && leb c UNUSED) (le-leb b UNUSED m)) ∙ token_fits
 
--- What is none of the first n codes.
-abbrev Beyond : ℕ → ℕ → Type 0
-Beyond zero code = Unit {0}
-Beyond (suc n) code = Beyond n code × (code ≡ n → ⊥)
-
-pub beyond : (n code : ℕ) → Beyond n code → n ≤ code
-beyond zero code t = omega arith
-beyond (suc n) code t = let h = beyond n code t.0 in let d = t.1 in omega arith
-
 -- A number that fits 32 bits is its own low word.
 low : (x y : ℕ) → y ≤ SHORT → leb x y ≡ true → x % WORD ≡ x
 low x y h e = let l = leb-true x y e in omega arith
 
 module _ (a b c : ℕ) (m : Limits) where
   keys_fit : fits m a b c ≡ true → (leb a m.0 ≡ true) × (leb b m.1 ≡ true)
-  keys_fit e = both (leb a m.0) (leb b m.1) (both (leb a m.0 && leb b m.1) (leb c m.2) e).0
+  keys_fit e = and_parts (leb a m.0) (leb b m.1) (and_parts (leb a m.0 && leb b m.1) (leb c m.2) e).0
 
   -- A call of no key, of one, and of two: keys are made of the low words.
   pub no_key : (x : Call) → Formed (m, x) a b c (m, x)

@@ -51,6 +51,14 @@ pub record Formed (f : Form) (a b c : ℕ) (r : Form) : Type 0 where
   pub most : r.0 ≡ f.0
   pub call : fits f.0 a b c ≡ true → r.1 ≡ f.1
 
+-- Of four numbers at a place of a list.
+abbrev pub FormedAt : List ℕ → ℕ → Form → Type 0
+FormedAt ns at r =
+    let a = get_or ns (at + 1) 0 in
+    let b = get_or ns (at + 2) 0 in
+    let c = get_or ns (at + 3) 0 in
+    Formed (form_of (get_or ns at 0) a b c) a b c r
+
 -- What four numbers ask for: a call, or nothing that there is.
 pub data Asked : Type 0 where
   nothing : Asked

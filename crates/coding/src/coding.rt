@@ -1,6 +1,6 @@
-ghost use Rattle.std.specs.Prelude.{ℕ, ◌≡◌, true, ◌+◌, ◌≤◌, ◌<◌, length};
+ghost use Rattle.std.specs.Prelude.{◌≡◌, true, ◌+◌, ◌≤◌, ◌<◌, length, get_or};
 ghost use Rattle.std.specs.List.{list_all};
-ghost use Rattle.coding.specs.Coding.{LONG, CODES, form_of, Formed, is_asked, asked_of, asked_at, call_in, call_at, call_list, is_listed};
+ghost use Rattle.coding.specs.Coding.{CODES, FormedAt, is_asked, asked_at, call_at, call_list, is_listed};
 
 use rules::call::Call;
 use rules::numbers::WORD;
@@ -32,10 +32,11 @@ pub struct Limits(pub u64, pub u64, pub u64);
 pub struct Form(pub Limits, pub Call);
 
 // What a code stands for. No enum of the codes stands between: a list that C lends may hold any number, and each is read here alone.
-fn form_of(code: u64, a: u64, b: u64, c: u64) -> Form
-    requires { code < CODES }
-    ensures { Formed (form_of code a b c) a b c result }
+fn form_of(call: &[u64; CALL]) -> Form
+    requires { get_or call.now 0 0 < CODES }
+    ensures { FormedAt call.now 0 result }
 {
+    let [code, a, b, c] = *call;
     // The lower 32 bits: the limits tell where more than those stand.
     let key = (a % WORD) as u32;
     let other = (b % WORD) as u32;
@@ -60,32 +61,34 @@ fn form_of(code: u64, a: u64, b: u64, c: u64) -> Form
 
 // Whether four numbers are a call whose code names a token, which may be any number.
 #[tactic(auto, using(crate::proofs::CodingLaws::no_code, crate::proofs::CodingLaws::more_than_token, crate::proofs::CodingLaws::token_alone))]
-fn is_token_call(code: u64, b: u64, c: u64) -> bool
-    requires { 10 ≤ code }
-    ensures { (a : ℕ) → a ≤ LONG → result ≡ is_asked (asked_of code a b c) }
+fn is_token_call(call: &[u64; CALL]) -> bool
+    requires { 10 ≤ get_or call.now 0 0 }
+    ensures { result ≡ is_asked (asked_at call.now 0) }
 {
+    let [code, _token, b, c] = *call;
     code < CODES && b <= UNUSED && c <= UNUSED
 }
 
 // Whether four numbers are a call. Most name no token, and those are told first.
 #[tactic(auto, using(crate::proofs::CodingLaws::is_fit))]
-fn is_call(code: u64, a: u64, b: u64, c: u64) -> bool
-    ensures { result ≡ is_asked (asked_of code a b c) }
+fn is_call(call: &[u64; CALL]) -> bool
+    ensures { result ≡ is_asked (asked_at call.now 0) }
 {
+    let [code, a, b, c] = *call;
     if code >= TOKENS {
-        return is_token_call(code, b, c);
+        return is_token_call(call);
     }
-    let most = form_of(code, a, b, c).0;
+    let most = form_of(call).0;
     a <= most.0 && b <= most.1 && c <= most.2
 }
 
 // The call that four numbers ask for.
 #[tactic(auto, using(crate::proofs::CodingLaws::known, crate::proofs::CodingLaws::made))]
-fn make_call(code: u64, a: u64, b: u64, c: u64) -> Call
-    requires { is_asked (asked_of code a b c) ≡ true }
-    ensures { result ≡ call_in (asked_of code a b c) }
+fn make_call(call: &[u64; CALL]) -> Call
+    requires { is_asked (asked_at call.now 0) ≡ true }
+    ensures { result ≡ call_at call.now 0 }
 {
-    form_of(code, a, b, c).1
+    form_of(call).1
 }
 
 // The call that stands at a place of a list, which was tested to be one.
@@ -94,14 +97,14 @@ pub fn call_at(calls: &[u64], at: usize) -> Call
     requires at_value { is_asked (asked_at calls.now at) ≡ true }
     ensures { result ≡ call_at calls.now at }
 {
-    make_call(calls[at], calls[at + 1], calls[at + 2], calls[at + 3])
+    make_call(&[calls[at], calls[at + 1], calls[at + 2], calls[at + 3]])
 }
 
 // Whether all of them, four numbers each, are calls.
 fn are_calls(calls: &[[u64; CALL]]) -> bool
     ensures { result ≡ list_all (λ call. is_asked (asked_at call 0)) calls.now }
 {
-    calls.iter().all(|&[code, a, b, c]| is_call(code, a, b, c))
+    calls.iter().all(is_call)
 }
 
 // Whether a list is one of calls, four numbers to each.

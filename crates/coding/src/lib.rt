@@ -1,4 +1,5 @@
 // Calls as the host's numbers.
 #![tactic(auto)]
 
+pub mod asked;
 pub mod coding;

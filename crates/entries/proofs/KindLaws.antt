@@ -52,15 +52,6 @@ provided_is : (b : Bool) (e : Entry) → is_entry (provided b e) ≡ true → pr
 provided_is true e h = refl
 provided_is false e h = absurd (let z : ◌≡◌ {A = ℕ} 0 1 = cc in omega arith)
 
-pub none_there : (e : Entry) → is_entry e ≡ false → e ≡ NoEntry
-none_there NoEntry h = refl
-none_there (EntryNew owner amount) h = absurd (let z : ◌≡◌ {A = ℕ} 0 1 = cc in omega arith)
-none_there (EntryPost a owner amount) h = absurd (let z : ◌≡◌ {A = ℕ} 0 1 = cc in omega arith)
-none_there (EntryJoin a b) h = absurd (let z : ◌≡◌ {A = ℕ} 0 1 = cc in omega arith)
-none_there EntrySnapshot h = absurd (let z : ◌≡◌ {A = ℕ} 0 1 = cc in omega arith)
-none_there EntryRollback h = absurd (let z : ◌≡◌ {A = ℕ} 0 1 = cc in omega arith)
-none_there EntryCommit h = absurd (let z : ◌≡◌ {A = ℕ} 0 1 = cc in omega arith)
-
 kind_made : {kind : ℕ} (a b owner amount : ℕ) → Kind kind → is_entry (entry_of kind a b owner amount) ≡ true
     → entry_of kind a b owner amount ≡ made_of kind a b owner amount
 kind_made a b owner amount new h = provided_is (eqb a 0 && eqb b 0) (EntryNew owner amount) h

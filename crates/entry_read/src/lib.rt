@@ -1,4 +1,5 @@
-// An entry of a valid journal, read.
+// An entry of a valid journal, read, and all of them one after the other.
 #![tactic(auto)]
 
 pub mod read;
+pub mod walk;

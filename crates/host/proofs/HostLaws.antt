@@ -1,11 +1,9 @@
 -- What the tests come to is what the exported functions leave. Assumes nothing.
-use Rattle.std.specs.Prelude.{◌≡◌, ◌*◌, ◌≤◌}
+use Rattle.std.specs.Prelude.{◌≡◌, ◌*◌}
 use Rattle.kit.specs.Names.{refl, sym, ap, ◌∙◌, Bool, true, false, cond, List, ℕ, length, ltb, arith, eq-eqb, ne_eqb}
-use Rattle.layout.specs.State.{Sized}
-use Rattle.coding.specs.Coding.{Listed, unlisted, calls, call_list, single, is_listed, calls_in}
-use Rattle.coding.proofs.CodingLaws.{four_each}
+use Rattle.coding.specs.Coding.{Listed, unlisted, calls, call_list, single, calls_in}
 use Rattle.admit.specs.Admit.{CARRIED-OUT, NO-STATE, NO-ANSWERS, hearing, admission}
-use Rattle.admit.proofs.AdmitLaws.{admitted, never_out}
+use Rattle.admit.proofs.AdmitLaws.{never_out}
 use Rattle.runs.specs.Served.{Host, served}
 use Rattle.host.specs.Host.{Hosted, hosted, refuse_host, stateless, heard, serve}
 
@@ -50,18 +48,6 @@ module _ (h : Host) (l : Listed) (n : ℕ) (q : n ≡ code_of h l) where
   pub carried_out_lem : (h' : Host) → n ≡ CARRIED-OUT → h' ≡ served h (calls_in l) → hosted n h' ≡ serve h l
   unfolding admission serve
   carried_out_lem h' e w = rw (e, w) (out (stateless h) h l (sym q ∙ e))
-
--- ---- what passes the tests can be run
-
--- What a run asks for.
-abbrev pub Runs : Host → List ℕ → Type 0
-Runs h ns = Sized h.numbers h.serials × ((is_listed (call_list ns) ≡ true) × (9 * length ns ≤ 4 * length h.answers))
-
-module _ (h : Host) (ns : List ℕ) where
-  pub may_run : code_of h (call_list ns) ≡ CARRIED-OUT → Runs h ns
-  may_run e =
-      let a = admitted (length h.numbers) (length h.serials) (call_list ns) (length h.answers) e in
-      (record { numbers = a.numbers; serials = a.serials }, (a.calls, omega (arith, a.room, four_each ns a.calls)))
 
 -- ---- the list of a single call
 

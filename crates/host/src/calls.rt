@@ -3,7 +3,7 @@ ghost use Rattle.coding.specs.Coding.{call_list, single};
 ghost use Rattle.runs.specs.Served.{host_lent};
 ghost use Rattle.host.specs.Host.{hosted, serve};
 
-use admit::tests::{CARRIED_OUT, NO_STATE, no_call, test_calls};
+use admit::tests::{CARRIED_OUT, Unserved, no_call, test_calls};
 use coding::coding::CALL;
 use layout::state::LentState;
 use rules::table::Lent;
@@ -24,15 +24,15 @@ pub fn meter_calls(
         let after = host_lent numbers.new serials.new parents.new crowns.new amounts.new log.new answers.new in
         hosted result after ≡ serve h (call_list calls.now) }
 {
-    if let Err(unserved) = test_calls(numbers.len(), serials.len(), calls, answers.len()) {
-        return unserved.code();
-    }
     let Some(numbers) = numbers.as_mut_array() else {
-        return NO_STATE;
+        return Unserved::NoState.code();
     };
     let Some(serials) = serials.as_mut_array() else {
-        return NO_STATE;
+        return Unserved::NoState.code();
     };
+    if let Err(unserved) = test_calls(calls, answers.len()) {
+        return unserved.code();
+    }
     let mut state = LentState { numbers, serials };
     let mut lent = Lent {
         parents,

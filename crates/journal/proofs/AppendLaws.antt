@@ -6,6 +6,7 @@ use Rattle.kit.specs.Names.{suc}
 use Rattle.kit.specs.Names.{length, take, drop, length-append, eqb, leb, ltb, arith, dec_lt, eq-eqb, ne_eqb, leb-true, eqb-true, ltb-false}
 use Rattle.kit.specs.Names.{lt-ltb, le-ltb, le_refl}
 use Rattle.kit.specs.Names.{length-take-le, length-drop}
+use Rattle.std.proofs.lemmas.Bool.{and_parts}
 use lib.ListN.{get_or-append}
 use lib.Seq.{take_at, drop_at}
 use native.Mathlib.Nat.{div-eq_of_eq-mul_right}
@@ -18,7 +19,7 @@ use Rattle.journal.specs.Journal.{valid}
 use Rattle.journal.specs.Append.{Appended, segments_of, entries_of, fills, entries_in, segment, declined, append}
 use Rattle.journal.specs.Kept.{Kept, Untouched}
 use Rattle.journal.proofs.ByteLaws.{length_number, number_there, number_fits, entries_same, entries_after, entries_back, length_entries}
-use Rattle.journal.proofs.ReadLaws.{both, one_round, read_same, read_enough, orderly_more, tested_orderly}
+use Rattle.journal.proofs.ReadLaws.{one_round, read_same, read_enough, orderly_more, tested_orderly}
 
 -- ---- the segment's bytes
 
@@ -34,8 +35,8 @@ record Filling (entries : Bytes) (count : ℕ) : Type 0 where
 filling : (entries : Bytes) → fills entries ≡ true → Filling entries (length entries / ENTRY-BYTES)
 filling entries e =
     let count = length entries / 24 in
-    let few = both (eqb (length entries) (24 * count) && leb 1 count) (leb count SEGMENT) e in
-    let some = both (eqb (length entries) (24 * count)) (leb 1 count) few.0 in
+    let few = and_parts (eqb (length entries) (24 * count) && leb 1 count) (leb count SEGMENT) e in
+    let some = and_parts (eqb (length entries) (24 * count)) (leb 1 count) few.0 in
     record {
       whole = eqb-true (length entries) (24 * count) some.0;
       some = leb-true 1 count some.1;
@@ -231,11 +232,11 @@ module _ (buffer : Bytes) (used : ℕ) (entries : Bytes) where
   appended e =
       let d = done e in
       let n = neither (ltb (length buffer) used) (valid earlier) (fills entries && valid (earlier ++ new)) d.0 in
-      let fv = both (fills entries) (valid (earlier ++ new)) n.2 in
+      let fv = and_parts (fills entries) (valid (earlier ++ new)) n.2 in
       let is = some_journal (journal_of earlier) n.1 in
       let more = one_more earlier entries next fv.0 (entries_of (journal_of earlier)) is in
       let may : ltb next WORD && orderly (open_in 0 (entries_of (journal_of earlier))) (entries_in entries) ≡ true =
-      (both (fills entries) (ltb next WORD && orderly (open_in 0 (entries_of (journal_of earlier))) (entries_in entries))
+      (and_parts (fills entries) (ltb next WORD && orderly (open_in 0 (entries_of (journal_of earlier))) (entries_in entries))
       (sym (valid_with earlier entries next (entries_of (journal_of earlier)) is) ∙ n.2)).1 in
       rw d.2 (kept (ltb-false (length buffer) used n.0) (ltb-false (length buffer - used) (length new) d.1) fv.1
       (more ∙ ap (λ (b : Bool). cond b (journal (suc next) (entries_of (journal_of earlier) ++ entries_in entries)) no_journal) may))

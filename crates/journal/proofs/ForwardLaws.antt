@@ -2,13 +2,14 @@
 use Rattle.std.specs.Prelude.{◌≡◌, ◌∷◌, ◌++◌, ◌+◌, ◌*◌, ◌≤◌, ◌<◌}
 use Rattle.kit.specs.Names.{refl, sym, ap, ◌∙◌, true, List, [], append_assoc, append-nil, ℕ, zero, suc}
 use Rattle.kit.specs.Names.{length, arith, dec_lt, ne_eqb, le-leb, lt-leb, lt-ltb, le-ltb, le_refl}
+use Rattle.std.proofs.lemmas.Bool.{and_parts}
 use Rattle.journal.specs.declared.entry.Entry.{Entry}
 use Rattle.journal.specs.declared.entry.Entry.TheVariants.{NoEntry}
 use Rattle.journal.specs.Numbers.{ENTRY-BYTES, TRAILER-BYTES}
 use Rattle.journal.specs.Entry.{Bytes, little_at, read_entry, entries_at}
 use Rattle.journal.specs.Journal.{journal, open_then, may_stand, orderly, open_in, journal_of}
 use Rattle.journal.specs.Forward.{forward, Onward, finish, entry, trailer}
-use Rattle.journal.proofs.ReadLaws.{both, Chain, nothing, more, orderly_more, journal_chain}
+use Rattle.journal.proofs.ReadLaws.{Chain, nothing, more, orderly_more, journal_chain}
 
 -- ---- an entry that may stand begins with a small number
 
@@ -41,7 +42,7 @@ module _ (bs : Bytes) (end : ℕ) where
   past_entries (suc count) at n fs h o w =
       let next : at + 24 * suc count ≡ at + 24 + 24 * count = omega arith in
       let e = read_entry bs at in
-      let b = both (may_stand n e) (orderly (open_then n e) (entries_at count bs (at + 24))) o in
+      let b = and_parts (may_stand n e) (orderly (open_then n e) (entries_at count bs (at + 24))) o in
       entry {at = at} (omega arith) (kind_small bs at n b.0) (past_entries count (at + 24) (open_then n e) fs (omega arith) b.1 (rw next at w))
 
   past_chain : {at n : ℕ} {es : List Entry} (fs : List Entry) → Chain bs at n es → at ≤ end → orderly 0 es ≡ true → Onward bs end at fs
@@ -49,12 +50,12 @@ module _ (bs : Bytes) (end : ℕ) where
   past_chain fs nothing h o w = w
   past_chain fs (more {start} {n} {es} count c some few t) h o w =
       let last = entries_at count bs start in
-      let b = both (orderly 0 es) (orderly (open_in 0 es) last) (sym (orderly_more 0 es last) ∙ o) in
+      let b = and_parts (orderly 0 es) (orderly (open_in 0 es) last) (sym (orderly_more 0 es last) ∙ o) in
       let after : Onward bs end (start + 24 * count) fs = trailer h (omega (arith, t.back, some)) w in
       let here = past_entries count start (open_in 0 es) fs (omega arith) b.1 after in
       rw (append_assoc es last fs) (past_chain (last ++ fs) c (omega arith) b.0 here)
 
-  onward_forward : {at : ℕ} {es : List Entry} → Onward bs end at es → (left : ℕ) → end ≤ at + left → forward left bs at end ≡ es
+  pub onward_forward : {at : ℕ} {es : List Entry} → Onward bs end at es → (left : ℕ) → end ≤ at + left → forward left bs at end ≡ es
   unfolding forward
   onward_forward finish zero h = refl
   onward_forward finish (suc left) h = rw (le-leb end end (le_refl end))

@@ -3,6 +3,7 @@
 use Rattle.std.specs.Prelude.{◌≡◌, ◌&&◌, ◌∷◌, ◌++◌, ◌+◌, ◌*◌, ◌-◌, ◌≤◌, ◌<◌}
 use Rattle.kit.specs.Names.{refl, sym, ap, ◌∙◌, Bool, true, false, cond, List, [], ℕ, zero, suc}
 use Rattle.kit.specs.Names.{length, get_or, eqb, leb, arith, ℕ_discrete, eq-eqb, ne_eqb, le-leb, lt-leb, leb-true, eqb-true, le_refl}
+use Rattle.std.proofs.lemmas.Bool.{and_parts}
 use Rattle.journal.specs.declared.entry.Entry.{Entry}
 use Rattle.journal.specs.Numbers.{ENTRY-BYTES, TRAILER-BYTES, SEGMENT}
 use Rattle.journal.specs.Entry.{Bytes, little_at, entries_at}
@@ -11,10 +12,6 @@ use Rattle.journal.specs.Journal.{open_in, tested, journal_of}
 use Rattle.journal.proofs.ByteLaws.{number_same, entries_same}
 
 -- ---- Bool, and what a journal was made of
-
-pub both : (x y : Bool) → x && y ≡ true → (x ≡ true) × (y ≡ true)
-both true y e = (refl, e)
-both false y e = absurd (let z : ◌≡◌ {A = ℕ} 0 1 = cc in omega arith)
 
 only : (b : Bool) (j : Journal) (n : ℕ) (es : List Entry) → cond b j no_journal ≡ journal n es → (b ≡ true) × (j ≡ journal n es)
 only true j n es e = (refl, e)
@@ -61,9 +58,9 @@ pub record Pointing (t : Trailer) (at : ℕ) : Type 0 where
 
 pub pointing : (t : Trailer) (at : ℕ) → points t at ≡ true → Pointing t at
 pointing t at e =
-    let inside = both (eqb t.distance (24 * t.count) && leb 1 t.count && leb t.count SEGMENT) (leb t.distance at) e in
-    let few = both (eqb t.distance (24 * t.count) && leb 1 t.count) (leb t.count SEGMENT) inside.0 in
-    let some = both (eqb t.distance (24 * t.count)) (leb 1 t.count) few.0 in
+    let inside = and_parts (eqb t.distance (24 * t.count) && leb 1 t.count && leb t.count SEGMENT) (leb t.distance at) e in
+    let few = and_parts (eqb t.distance (24 * t.count) && leb 1 t.count) (leb t.count SEGMENT) inside.0 in
+    let some = and_parts (eqb t.distance (24 * t.count)) (leb 1 t.count) few.0 in
     record {
       whole = eqb-true t.distance (24 * t.count) some.0;
       some = leb-true 1 t.count some.1;
@@ -107,7 +104,7 @@ module _ (bs : Bytes) where
             let start = at - t.distance in
             let o = only (leb 12 end && points t at) (followed (read_to left bs start) t.number (entries_at t.count bs start)) n es
             (rw (ne_eqb end 0 z) at e) in
-            let p = both (leb 12 end) (points t at) o.0 in
+            let p = and_parts (leb 12 end) (points t at) o.0 in
             let b = before (read_to left bs start) t.number (entries_at t.count bs start) n es o.1 in
             longer_chain end (leb-true 12 end p.0) (pointing t at p.1) (read_chain left start t.number b.earlier b.is)
             b.one_more b.all

@@ -1,8 +1,8 @@
 -- Four numbers read and written. Assumes nothing.
 use Rattle.std.specs.Prelude.{◌≡◌, ◌<◌}
 use Rattle.kit.specs.Names.{true, false, List, ℕ, length, get_or, eqb, ltb, eq-eqb, ne_eqb, eqb-true, ltb-true}
+use Rattle.std.proofs.lemmas.Bool.{and_parts}
 use Rattle.rules.specs.Rules.{WORD}
-use Rattle.journal.proofs.ReadLaws.{both}
 use Rattle.known_numbers.specs.Known.{KNOWN, is_known}
 
 module _ (ns : List ℕ) where
@@ -18,5 +18,5 @@ module _ (ns : List ℕ) where
 
   pub four : is_known ns ≡ true → Four
   four e =
-      let b = both (eqb (length ns) KNOWN) (ltb (get_or ns 2 0) WORD) e in
+      let b = and_parts (eqb (length ns) KNOWN) (ltb (get_or ns 2 0) WORD) e in
       record { long = eqb-true (length ns) KNOWN b.0; small = ltb-true (get_or ns 2 0) WORD b.1 }

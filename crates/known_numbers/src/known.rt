@@ -1,4 +1,4 @@
-ghost use Rattle.std.specs.Prelude.{◌≡◌, true, length};
+ghost use Rattle.std.specs.Prelude.{◌≡◌, true};
 ghost use Rattle.known_numbers.specs.Known.{KNOWN, is_known, known_in, known_numbers};
 
 use journal::known::Known;
@@ -28,8 +28,7 @@ pub fn known_in(known: &[u64]) -> Known
     }
 }
 
-pub fn put_known(known: &mut [u64], after: Known)
-    requires { length known.old ≡ KNOWN }
+pub fn put_known(known: &mut [u64; KNOWN], after: Known)
     ensures { known.new ≡ known_numbers after }
 {
     known.copy_from_slice(&[

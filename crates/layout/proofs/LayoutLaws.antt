@@ -1,13 +1,14 @@
 -- The numbers of a state: what stands where, what a call writes, and that numbers and state are each other's. Assumes nothing.
 use Rattle.std.specs.Prelude.{◌≡◌, ◌∷◌, ◌+◌, ◌≤◌, ◌<◌}
-use Rattle.kit.specs.Names.{refl, sym, ap, Bool, true, false, cond, List, [], map, ℕ, zero, suc, length, get_or, set, drop, ltb}
+use Rattle.kit.specs.Names.{refl, sym, ap, List, [], map, ℕ, zero, suc, length, get_or, set, drop, ltb}
 use Rattle.kit.specs.Names.{length-set, set_out, arith, add-one, lt-ltb, le-ltb}
-use Rattle.rules.specs.Rules.{Call, Head, Mark, Sought, State, MAX-OPEN, mark, mark_at}
+use Rattle.rules.specs.Rules.{Call, Head, Mark, State, MAX-OPEN, mark, mark_at}
 use Rattle.rules.specs.declared.call.Call.TheVariants.{Rollback, Commit, Keys, Actions, Changes}
+use Rattle.rules.proofs.TestLaws.{either_way}
 use Rattle.std.specs.Prelude.{None}
 use Rattle.undo_log.specs.declared.tokens.Settled.{Settled}
 use Rattle.undo_log.specs.Settled.{state_after, mark_of, mark_for}
-use Rattle.layout.specs.State.{NUMBERS, SERIALS, Sized, marks_of, head_in, state_by, state_of, headed, pairs_of, state_numbers, state_serials}
+use Rattle.layout.specs.State.{NUMBERS, SERIALS, Sized, marks_of, state_by, state_of, headed, pairs_of, state_numbers, state_serials}
 
 -- ---- marks as numbers: log length and keys two by two, and the serials
 
@@ -87,17 +88,11 @@ module _ (h : Head) where
   headed_begun : {ns : List ℕ} (ss : List ℕ) → Begun ns → state_of (headed ns h) ss ≡ state_by h ns ss
   headed_begun ss (begun c u o ns n) = refl
 
-same_begun : {ns : List ℕ} → Begun ns → headed ns (head_in ns) ≡ ns
-same_begun (begun c u o ns n) = refl
-
 pub headed_state : (ns ss : List ℕ) (h : Head) → length ns ≡ NUMBERS → state_of (headed ns h) ss ≡ state_by h ns ss
 headed_state ns ss h z = headed_begun h ss (begins ns z)
 
 pub headed_length : (ns : List ℕ) (h : Head) → length (headed ns h) ≡ length ns
 headed_length ns h = simp length-set
-
-pub headed_same : (ns : List ℕ) → length ns ≡ NUMBERS → headed ns (head_in ns) ≡ ns
-headed_same ns z = same_begun (begins ns z)
 
 -- ---- what a call writes
 
@@ -166,14 +161,10 @@ numbers_state ns ss z = both_back (shape ns ss z)
 
 -- ---- the mark that a call is about
 
-either : (b : Bool) → cond {A = Sought} b None None ≡ None
-either true = refl
-either false = refl
-
 -- A call that names no token is about no mark, whatever is open.
 pub no_mark : (s : State) (c : Call) → None ≡ mark_of s c → None ≡ mark_for s c
 unfolding mark_for
-no_mark s c q = rw (← q) (sym (either (ltb MAX-OPEN s.«open»)))
+no_mark s c q = rw (← q) (sym (either_way (ltb MAX-OPEN s.«open») None))
 
 -- A commit is about the mark that a rollback is about, and all questions are about the same one.
 pub commit_mark : (s : State) (token : ℕ) → mark_for s (Rollback token) ≡ mark_for s (Commit token)

@@ -1,5 +1,5 @@
 // The state of a table as the numbers that the host lends: no more of it is read than a call is about.
-ghost use Rattle.std.specs.Prelude.{◌≡◌, ◌<◌, length};
+ghost use Rattle.std.specs.Prelude.{◌≡◌, ◌+◌, ◌<◌};
 ghost use Rattle.rules.specs.Rules.{MAX-OPEN, mark_at};
 ghost use Rattle.layout.specs.State.{NUMBERS, Sized, head_in};
 ghost use Rattle.layout.specs.Lent.{head_lent, state_in};
@@ -21,14 +21,21 @@ pub struct LentState<'a> {
     pub serials: &'a mut [u64; SERIALS],
 }
 
+// Where the short numbers of mark i begin: its log length, then its keys.
+pub fn mark_place(i: usize) -> usize
+    requires { i < MAX-OPEN }
+    ensures { result ≡ i + i + 3 }
+{
+    i + i + 3
+}
+
 // For proofs alone: the arrays' lengths, which their types tell.
 fn sized(_numbers: &[u32; NUMBERS], _serials: &[u64; SERIALS])
     ensures { Sized _numbers.now _serials.now }
 {}
 
 // The head that stands in the short numbers.
-pub fn head_of(numbers: &[u32]) -> Head
-    requires { length numbers.now ≡ NUMBERS }
+fn head_of(numbers: &[u32; NUMBERS]) -> Head
     ensures { result ≡ head_in numbers.now }
 {
     Head {
@@ -57,7 +64,7 @@ impl Marks for LentState<'_> {
     fn mark(&self, i: usize) -> Mark {
         let numbers = &*self.numbers;
         let serials = &*self.serials;
-        let at = i + i + 3;
+        let at = mark_place(i);
         Mark {
             serial: serials[i + 1],
             log_len: numbers[at],

@@ -1,29 +1,28 @@
 -- A number as the bytes that it is read from. Assumes nothing.
-use Rattle.std.specs.Prelude.{◌≡◌, ◌∷◌, ◌+◌}
+use Rattle.std.specs.Prelude.{◌≡◌, ◌+◌, ◌-◌}
 use Rattle.std.specs.Int.{w32, w64, from_le_bytes}
-use Rattle.kit.specs.Names.{[], ℕ, suc, get_or, arith}
+use Rattle.kit.specs.Names.{◌∙◌, ℕ, take, drop, get_or-take, get_or-drop, arith}
 use Rattle.journal.specs.Entry.{Bytes, little_at}
+use Rattle.journal.proofs.ByteLaws.{number_same}
 
-pub four_at : (bs : Bytes) (at : ℕ)
-    → from_le_bytes w32 (get_or bs at 0 ∷ get_or bs (at + 1) 0 ∷ get_or bs (at + 2) 0 ∷ get_or bs (at + 3) 0 ∷ []) ≡ little_at 4 bs at
-unfolding little_at
-four_at bs at =
-    let one : at + 1 ≡ suc at = omega arith in
-    let two : at + 2 ≡ suc (suc at) = omega arith in
-    let three : at + 3 ≡ suc (suc (suc at)) = omega arith in
-    rw (one, two, three) (omega arith)
+-- Bytes that were cut out are the number that stood there.
+cut : (w : ℕ) (bs ys : Bytes) (at : ℕ) → ys ≡ take (at + w - at) (drop at bs) → little_at w ys 0 ≡ little_at w bs at
+cut w bs ys at e =
+    number_same w ys bs 0 at (λ i h.
+    let here : 0 + i ≡ i = omega arith in
+    rw (here, e) (get_or-take (at + w - at) (drop at bs) i 0 (omega arith) ∙ get_or-drop at bs i 0))
 
-pub eight_at : (bs : Bytes) (at : ℕ)
-    → from_le_bytes w64
-    (get_or bs at 0 ∷ get_or bs (at + 1) 0 ∷ get_or bs (at + 2) 0 ∷ get_or bs (at + 3) 0 ∷ get_or bs (at + 4) 0 ∷ get_or bs (at + 5) 0
-    ∷ get_or bs (at + 6) 0 ∷ get_or bs (at + 7) 0 ∷ []) ≡ little_at 8 bs at
+-- The library's number is the rule's.
+four : (ys : Bytes) → from_le_bytes w32 ys ≡ little_at 4 ys 0
 unfolding little_at
-eight_at bs at =
-    let one : at + 1 ≡ suc at = omega arith in
-    let two : at + 2 ≡ suc (suc at) = omega arith in
-    let three : at + 3 ≡ suc (suc (suc at)) = omega arith in
-    let four : at + 4 ≡ suc (suc (suc (suc at))) = omega arith in
-    let five : at + 5 ≡ suc (suc (suc (suc (suc at)))) = omega arith in
-    let six : at + 6 ≡ suc (suc (suc (suc (suc (suc at))))) = omega arith in
-    let seven : at + 7 ≡ suc (suc (suc (suc (suc (suc (suc at)))))) = omega arith in
-    rw (one, two, three, four, five, six, seven) (omega arith)
+four ys = omega arith
+
+eight : (ys : Bytes) → from_le_bytes w64 ys ≡ little_at 8 ys 0
+unfolding little_at
+eight ys = omega arith
+
+pub four_at : (bs ys : Bytes) (at : ℕ) → ys ≡ take (at + 4 - at) (drop at bs) → from_le_bytes w32 ys ≡ little_at 4 bs at
+four_at bs ys at e = four ys ∙ cut 4 bs ys at e
+
+pub eight_at : (bs ys : Bytes) (at : ℕ) → ys ≡ take (at + 8 - at) (drop at bs) → from_le_bytes w64 ys ≡ little_at 8 bs at
+eight_at bs ys at e = eight ys ∙ cut 8 bs ys at e

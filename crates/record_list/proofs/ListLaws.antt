@@ -1,24 +1,20 @@
 -- A list of calls that are written is a run of the rule's step. Assumes nothing.
-use Rattle.std.specs.Prelude.{◌≡◌, ◌||◌, ◌∷◌, ◌++◌, ◌+◌, ◌*◌, ◌/◌, ◌≤◌, ◌<◌}
-use Rattle.kit.specs.Names.{refl, sym, ap, ◌∙◌, subst, Bool, true, List, [], ℕ, suc, length, drop, sets}
+use Rattle.std.specs.Prelude.{◌≡◌, ◌∷◌, ◌+◌, ◌*◌, ◌/◌, ◌≤◌, ◌<◌}
+use Rattle.kit.specs.Names.{refl, sym, ap, ◌∙◌, true, List, [], ℕ, length, drop, sets}
 use Rattle.kit.specs.Names.{drop-length, dec_lt, arith}
-use Rattle.rules.specs.Rules.{Answer, Call, Head, State, Table, table, head_of, answer_numbers, sizes_of, stray, bad, bad_table}
+use Rattle.rules.specs.Rules.{Answer, Call, Head, State, answer_numbers}
 use Rattle.layout.specs.State.{Sized, head_in, state_of, state_numbers, state_serials, headed}
 use Rattle.layout.proofs.LayoutLaws.{numbers_state, headed_state, headed_length}
 use Rattle.coding.specs.Coding.{call_list, is_listed, calls_in, call_at}
 use Rattle.coding.specs.Answers.{answers_numbers}
 use Rattle.coding.proofs.CodingLaws.{Next, next_call}
 use Rattle.journal.specs.Record.{Book, Recorded, recorded, RecordedAll, record_step, record_all}
-use Rattle.runs.specs.Served.{Host, host, table_of}
+use Rattle.runs.specs.Served.{Host, host}
 use Rattle.std.proofs.Math.Seq.{length-sets}
-use Rattle.runs.proofs.RunLaws.{written_host, table_by}
+use Rattle.runs.proofs.RunLaws.{nine_on, written_host, table_by}
 use Rattle.record_list.specs.Lent.{Lent, lent, recorded_from}
-use Rattle.record_list.proofs.StepLaws.{bad_recorded}
 
 -- ---- one call more
-
-nine_on : (l : List ℕ) (to : ℕ) (a : Answer) (ns : List ℕ) → sets (sets l to (answer_numbers a)) (to + 9) ns ≡ sets l to (answer_numbers a ++ ns)
-nine_on l to a ns = let e : to + 9 ≡ suc (suc (suc (suc (suc (suc (suc (suc (suc to)))))))) = omega arith in rw e
 
 -- What a run of calls leaves, with answers that are there already.
 abbrev leaves : List ℕ → ℕ → RecordedAll → Lent
@@ -52,9 +48,8 @@ no_calls to hd h j z =
 
 -- ---- what is left of a list
 
--- The calls from `at` on lead to the same end, with the head that is at hand; and whether the table is bad is known.
-pub record Writing (h₀ : Host) (j₀ : Book) (hd : Head) (b : Bool) (h : Host) (j : Book) (l : List ℕ) (at to : ℕ) : Type 0 where
-  pub is_bad : b ≡ bad (sizes_of h.rows h.log) hd
+-- The calls from `at` on lead to the same end, with the head that is at hand.
+pub record Writing (h₀ : Host) (j₀ : Book) (hd : Head) (h : Host) (j : Book) (l : List ℕ) (at to : ℕ) : Type 0 where
   pub calls : is_listed (call_list (drop at l)) ≡ true
   pub within : at ≤ length l
   pub pace : 4 * to ≡ 9 * at
@@ -62,12 +57,11 @@ pub record Writing (h₀ : Host) (j₀ : Book) (hd : Head) (b : Bool) (h : Host)
   pub same : under to hd h j (calls_in (call_list (drop at l))) ≡ recorded_from 0 h₀ j₀ (calls_in (call_list l))
 
 pub writing_starts : (h : Host) (j : Book) (l : List ℕ) → is_listed (call_list l) ≡ true
-    → 9 * length l ≤ 4 * length h.answers → (hd : Head) (b : Bool) → hd ≡ head_in h.numbers → b ≡ bad (sizes_of h.rows h.log) hd
-    → Writing h j hd b h j l 0 0
+    → 9 * length l ≤ 4 * length h.answers → (hd : Head) → hd ≡ head_in h.numbers
+    → Writing h j hd h j l 0 0
 unfolding under recorded_from
-writing_starts h j l c r hd b e q =
+writing_starts h j l c r hd e =
     record {
-      is_bad = q;
       calls = c;
       within = omega arith;
       pace = refl;
@@ -75,7 +69,7 @@ writing_starts h j l c r hd b e q =
       same = ap {B = Lent} (λ (x : Head). leaves h.answers 0 (record_all j (table_by x h) (calls_in (call_list l)))) e;
     }
 
-module _ (h₀ : Host) (j₀ : Book) (hd : Head) (b : Bool) (h : Host) (j : Book) (l : List ℕ) (at to : ℕ) (g : Writing h₀ j₀ hd b h j l at to) where
+module _ (h₀ : Host) (j₀ : Book) (hd : Head) (h : Host) (j : Book) (l : List ℕ) (at to : ℕ) (g : Writing h₀ j₀ hd h j l at to) where
   module _ (k : at < length l) where
     pub next_of : Next l at
     next_of = next_call l at k g.calls
@@ -83,19 +77,14 @@ module _ (h₀ : Host) (j₀ : Book) (hd : Head) (b : Bool) (h : Host) (j : Book
     pub room_of : to + 9 ≤ length h.answers
     room_of = omega (arith, next_of.room, g.room, g.pace)
 
-    pub writing_on : (h' : Host) (j' : Book) (a : Answer) (hd' : Head) (b' : Bool)
+    pub writing_on : (h' : Host) (j' : Book) (a : Answer) (hd' : Head)
         → recorded a (table_by hd' h') j' ≡ record_step j.bytes j.known (table_by hd h) (call_at l at)
-        → h'.answers ≡ sets h.answers to (answer_numbers a) → b' ≡ (b || stray hd')
-        → Writing h₀ j₀ hd' b' h' j' l (at + 4) (to + 9)
-    writing_on h' j' a hd' b' e w q =
+        → h'.answers ≡ sets h.answers to (answer_numbers a)
+        → Writing h₀ j₀ hd' h' j' l (at + 4) (to + 9)
+    writing_on h' j' a hd' e w =
         let n = next_of in
         let rest = calls_in (call_list (drop (at + 4) l)) in
-        let t = table_by hd h in
-        let u : table_by hd' h' ≡ (record_step j.bytes j.known t (call_at l at)).table = ap (λ (x : Recorded). x.table) e in
         record {
-          is_bad = q
-              ∙ subst (λ (x : Table). (b || stray (head_of x.state)) ≡ bad_table x) (sym u)
-              (bad_recorded j.bytes j.known t (call_at l at) b g.is_bad);
           calls = n.goes_on;
           within = n.room;
           pace = omega (arith, g.pace);

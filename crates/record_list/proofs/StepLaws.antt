@@ -1,11 +1,9 @@
 -- A call that is written, from the number that bars it, what it comes to and what is put down. Assumes nothing.
-use Rattle.std.specs.Prelude.{◌≡◌, ◌||◌, ◌&&◌}
+use Rattle.std.specs.Prelude.{◌≡◌, ◌&&◌}
 use Rattle.kit.specs.Names.{refl, sym, ap, ◌∙◌, Bool, true, false, cond, [], ℕ, length, eqb, arith}
 use Rattle.rules.specs.declared.refusal.Refusal.{Refusal}
 use Rattle.rules.specs.declared.refusal.Refusal.TheVariants.{NoKey, KeysFull, LogFull, OwnerClash, TooMuch, NotInnermost, TooDeep, BrokenTable, BadState, SerialsSpent, NotOpen, BadJournal, NoRoom}
-use Rattle.rules.specs.Rules.{Answer, Call, Table, DONE, code_of, head_of, refusal, Outcome, outcome, sizes_of, stray, bad_table, step}
-use Rattle.rules.proofs.StateLaws.{roomy_bad, good_roomy, bad_good}
-use Rattle.bad_state.proofs.GoodLaws.{bad_after}
+use Rattle.rules.specs.Rules.{Answer, Call, Table, DONE, code_of, refusal, Outcome, outcome, step}
 use Rattle.journal.specs.declared.known.Known.{Known}
 use Rattle.journal.specs.Entry.{Bytes}
 use Rattle.journal.specs.Written.{entry_for}
@@ -72,23 +70,3 @@ module _ (bs : Bytes) (k : Known) (t : Table) (c : Call) where
         ∙ ap {B = Recorded} (λ (x : Outcome). recorded x.answer x.table
         (put_down bs k (cond (eqb x.answer.no DONE) (entry_for c) []) x.table.state.«open»)) o
         ∙ let_through (sym q ∙ done)
-
-  -- ---- whether the table is bad
-
-  unchanged : (b : Bool) → b ≡ bad_table t → (b || stray (head_of t.state)) ≡ bad_table t
-  unchanged true e = e
-  unchanged false e =
-      let z = sizes_of t.rows t.log in
-      let h = head_of t.state in
-      sym (roomy_bad z h (good_roomy z h (bad_good z h (sym e))))
-
-  pub bad_recorded : (b : Bool) → b ≡ bad_table t → let u = (record_step bs k t c).table in (b || stray (head_of u.state)) ≡ bad_table u
-  unfolding record_step
-  bad_recorded b e = go (mine && mismatched k opened) (mine && too_long 1 (length bs) k)
-    where
-      go : (x y : Bool)
-          → let u = (cond x (recorded (refusal 12) t (book bs k)) (cond y (recorded (refusal 16) t (book bs k)) (written_down bs k t c))).table in
-          (b || stray (head_of u.state)) ≡ bad_table u
-      go true y = unchanged b e
-      go false true = unchanged b e
-      go false false = bad_after t c b e

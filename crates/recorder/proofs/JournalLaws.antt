@@ -1,24 +1,24 @@
 -- What the tests and the work come to is what the journal's exported functions leave. Assumes nothing.
 use Rattle.std.specs.Prelude.{◌≡◌}
-use Rattle.kit.specs.Names.{sym, ap, ◌∙◌, true, false, List, ℕ, length, eq-eqb, ne_eqb}
+use Rattle.kit.specs.Names.{refl, ap, ◌∙◌, Bool, true, false, cond, List, ℕ, length, eq-eqb, ne_eqb}
 use Rattle.rules.specs.Rules.{DONE, BAD-JOURNAL}
-use Rattle.coding.specs.Coding.{Listed, call_list, calls_in}
+use Rattle.layout.specs.State.{NUMBERS, SERIALS}
+use Rattle.coding.specs.Coding.{Listed, calls_in}
 use Rattle.journal.specs.declared.known.Known.{Known}
 use Rattle.journal.specs.Entry.{Bytes}
 use Rattle.journal.specs.Journal.{valid}
 use Rattle.journal.specs.Append.{Appended, append}
 use Rattle.journal.specs.Record.{book, Flushed, flushed, flush}
-use Rattle.admit.specs.Admit.{CARRIED-OUT}
-use Rattle.results.specs.Results.{result_numbers, room_admission}
-use Rattle.known_numbers.specs.Known.{is_known, known_in, known_numbers}
+use Rattle.admit.specs.Admit.{CARRIED-OUT, NO-STATE, NO-ANSWERS, hearing, admission}
+use Rattle.admit.proofs.AdmitLaws.{numbers_missing, serials_missing, state_there}
+use Rattle.results.specs.Results.{RESULT, result_numbers, room_admission}
+use Rattle.known_numbers.specs.Known.{KNOWN, is_known, known_in, known_numbers}
 use Rattle.known_numbers.specs.Tests.{record_admission, flush_admission, known_admission}
-use Rattle.known_numbers.proofs.TestLaws.{recordable}
 use Rattle.counting.specs.Counted.{known_of}
 use Rattle.runs.specs.Served.{Host}
 use Rattle.record_list.specs.Lent.{Lent, lent, recorded_from}
 use Rattle.recorder.specs.Journals.{returned, decided, RecordLent, record_lent, record_served, serve_record, FlushLent, flush_lent, flush_served, serve_flush}
 use Rattle.recorder.specs.Journals.{AppendLent, append_lent, append_served, serve_append, KnownLent, known_lent, known_served, serve_known}
-use Rattle.host.proofs.HostLaws.{Runs, may_run}
 
 -- ---- what is returned decides
 
@@ -43,12 +43,32 @@ module _ (m : RecordLent) (l : Listed) (n : ℕ) (q : n ≡ record_code m l) whe
   unfolding serve_record
   record_out x e w = works n (record_code m l) q m (record_served m l) x e w
 
-pub record_passed : (m : RecordLent) (ns : List ℕ) (n : ℕ) → n ≡ record_code m (call_list ns) → n ≡ CARRIED-OUT
-    → (is_known m.known ≡ true) × Runs m.host ns
-record_passed m ns n q e =
-    let h = m.host in
-    let p = recordable (length h.numbers) (length h.serials) (call_list ns) (length h.answers) m.known (sym q ∙ e) in
-    (p.0, may_run h ns p.1)
+-- A state's numbers, what is known, and then the calls.
+without : (b : Bool) (x : ℕ) → NO-STATE ≡ x → NO-STATE ≡ cond b x NO-STATE
+without true x e = e
+without false x e = refl
+
+module _ (m : RecordLent) (l : Listed) where
+  pub record_numbers_missing : (length m.host.numbers ≡ NUMBERS → ⊥) → NO-STATE ≡ record_code m l
+  record_numbers_missing d =
+      let h = m.host in
+      without (is_known m.known) (admission (length h.numbers) (length h.serials) l (length h.answers))
+      (numbers_missing (length h.numbers) (length h.serials) l (length h.answers) d)
+
+  pub record_unknown : (length m.known ≡ KNOWN → ⊥) → NO-STATE ≡ record_code m l
+  record_unknown d = rw (ne_eqb (length m.known) KNOWN d)
+
+  module _ (fit : length m.host.numbers ≡ NUMBERS) where
+    pub record_serials_missing : (length m.host.serials ≡ SERIALS → ⊥) → NO-STATE ≡ record_code m l
+    record_serials_missing d =
+        let h = m.host in
+        without (is_known m.known) (admission (length h.numbers) (length h.serials) l (length h.answers))
+        (serials_missing (length h.numbers) (length h.serials) l (length h.answers) fit d)
+
+    pub record_tested : length m.host.serials ≡ SERIALS → cond (is_known m.known) (hearing l (length m.host.answers)) NO-STATE ≡ record_code m l
+    record_tested e =
+        let h = m.host in
+        ap (λ (n : ℕ). cond (is_known m.known) n NO-STATE) (state_there (length h.numbers) (length h.serials) l (length h.answers) fit e)
 
 pub as_recorded : (m : RecordLent) (l : Listed) (k : Known) → k ≡ known_in m.known → (h : Host) (bs : Bytes) (k' : Known) (ks : List ℕ)
     → lent h (book bs k') ≡ recorded_from 0 m.host (book m.journal k) (calls_in l) → ks ≡ known_numbers k' → record_lent h bs ks ≡ record_served m l
@@ -61,6 +81,18 @@ as_recorded m l k q h bs k' ks e w =
 
 abbrev pub flush_code : FlushLent → ℕ
 flush_code m = flush_admission m.known (length m.result)
+
+-- What is known, then room for the result.
+module _ (m : FlushLent) where
+  pub flush_unknown : is_known m.known ≡ false → NO-STATE ≡ flush_code m
+  flush_unknown q = rw q
+
+  module _ (q : is_known m.known ≡ true) where
+    pub flush_roomless : (length m.result ≡ RESULT → ⊥) → NO-ANSWERS ≡ flush_code m
+    flush_roomless d = rw (q, ne_eqb (length m.result) RESULT d)
+
+    pub flush_roomy : length m.result ≡ RESULT → CARRIED-OUT ≡ flush_code m
+    flush_roomy e = rw (q, eq-eqb (length m.result) RESULT e)
 
 module _ (m : FlushLent) (n : ℕ) (q : n ≡ flush_code m) where
   pub flush_away : (n ≡ CARRIED-OUT → ⊥) → returned n m ≡ serve_flush m
@@ -83,6 +115,12 @@ as_flushed m k q n bs k' ks result e w r =
 
 -- ---- a segment appended
 
+pub append_roomless : (m : AppendLent) → (length m.result ≡ RESULT → ⊥) → NO-ANSWERS ≡ room_admission (length m.result)
+append_roomless m d = rw (ne_eqb (length m.result) RESULT d)
+
+pub append_roomy : (m : AppendLent) → length m.result ≡ RESULT → CARRIED-OUT ≡ room_admission (length m.result)
+append_roomy m e = rw (eq-eqb (length m.result) RESULT e)
+
 module _ (m : AppendLent) (used : ℕ) (entries : Bytes) (n : ℕ) (q : n ≡ room_admission (length m.result)) where
   pub append_away : (n ≡ CARRIED-OUT → ⊥) → returned n m ≡ serve_append m used entries
   unfolding serve_append
@@ -102,6 +140,18 @@ as_appended m used entries a result e r =
 
 abbrev pub known_code : KnownLent → ℕ
 known_code m = known_admission (length m.known) (length m.result)
+
+-- Room for what is known, then for the result.
+module _ (m : KnownLent) where
+  pub known_short : (length m.known ≡ KNOWN → ⊥) → NO-STATE ≡ known_code m
+  known_short d = rw (ne_eqb (length m.known) KNOWN d)
+
+  module _ (q : length m.known ≡ KNOWN) where
+    pub known_roomless : (length m.result ≡ RESULT → ⊥) → NO-ANSWERS ≡ known_code m
+    known_roomless d = rw (eq-eqb (length m.known) KNOWN q, ne_eqb (length m.result) RESULT d)
+
+    pub known_roomy : length m.result ≡ RESULT → CARRIED-OUT ≡ known_code m
+    known_roomy e = rw (eq-eqb (length m.known) KNOWN q, eq-eqb (length m.result) RESULT e)
 
 module _ (m : KnownLent) (bs : Bytes) (n : ℕ) (q : n ≡ known_code m) where
   pub known_away : (n ≡ CARRIED-OUT → ⊥) → returned n m ≡ serve_known m bs

@@ -2,20 +2,19 @@
 ghost use Rattle.std.specs.Prelude.{◌≡◌};
 ghost use Rattle.coding.specs.Coding.{call_list};
 ghost use Rattle.runs.specs.Served.{host_lent};
-ghost use Rattle.recording.specs.Barred.{no_of};
 ghost use Rattle.recorder.specs.Journals.{returned, record_lent, serve_record, flush_lent, serve_flush, append_lent, serve_append, known_lent, serve_known};
 
-use admit::tests::{CARRIED_OUT, NO_STATE};
+use admit::tests::{CARRIED_OUT, Unserved};
 use appending::append::append;
 use counting::known::known_of;
 use journal::known::Book;
-use known_numbers::known::{known_in, put_known};
-use known_numbers::tests::{test_flush, test_known, test_record};
+use known_numbers::known::{is_known, known_in, put_known};
+use known_numbers::tests::test_record;
 use layout::state::LentState;
 use record_list::list::run_recorded;
-use recording::segment::flush;
-use results::results::{put_result, test_room};
-use rules::numbers::{BAD_JOURNAL, DONE};
+use recording::segment::{flush, number_of};
+use results::results::put_result;
+use rules::numbers::DONE;
 use rules::refusal::Refusal;
 use rules::table::Lent;
 use valid::valid::valid;
@@ -39,15 +38,18 @@ pub extern "C" fn meter_record(
         returned result (record_lent after journal.new known.new)
         ≡ serve_record (record_lent h journal.old known.old) (call_list calls.now) }
 {
-    if let Err(unserved) = test_record(numbers.len(), serials.len(), calls, answers.len(), known) {
-        return unserved.code();
-    }
     let Some(numbers) = numbers.as_mut_array() else {
-        return NO_STATE;
+        return Unserved::NoState.code();
     };
     let Some(serials) = serials.as_mut_array() else {
-        return NO_STATE;
+        return Unserved::NoState.code();
     };
+    let Some(known) = known.as_mut_array() else {
+        return Unserved::NoState.code();
+    };
+    if let Err(unserved) = test_record(calls, answers.len(), known) {
+        return unserved.code();
+    }
     let mut state = LentState { numbers, serials };
     let mut lent = Lent {
         parents,
@@ -65,25 +67,21 @@ pub extern "C" fn meter_record(
     CARRIED_OUT
 }
 
-// What C reads of a refusal, or of none.
-fn number_of(done: Result<(), Refusal>) -> u32
-    ensures { result ≡ no_of done }
-{
-    match done {
-        Ok(()) => DONE,
-        Err(why) => why.code(),
-    }
-}
-
 // Makes the entries that wait a segment.
 #[unsafe(no_mangle)]
 pub extern "C" fn meter_flush(journal: &mut [u8], known: &mut [u64], res: &mut [u64]) -> u32
     ensures { returned result (flush_lent journal.new known.new res.new)
         ≡ serve_flush (flush_lent journal.old known.old res.old) }
 {
-    if let Err(unserved) = test_flush(known, res.len()) {
-        return unserved.code();
+    let Some(known) = known.as_mut_array() else {
+        return Unserved::NoState.code();
+    };
+    if !is_known(known) {
+        return Unserved::NoState.code();
     }
+    let Some(res) = res.as_mut_array() else {
+        return Unserved::NoAnswers.code();
+    };
     let mut book = Book {
         bytes: journal,
         known: known_in(known),
@@ -106,9 +104,9 @@ pub extern "C" fn meter_append(
     ensures { returned result (append_lent journal.new res.new)
         ≡ serve_append (append_lent journal.old res.old) used entries.now }
 {
-    if let Err(unserved) = test_room(res.len()) {
-        return unserved.code();
-    }
+    let Some(res) = res.as_mut_array() else {
+        return Unserved::NoAnswers.code();
+    };
     match append(journal, used, entries) {
         Ok(after) => put_result(res, DONE, after),
         Err(why) => put_result(res, why.code(), used),
@@ -122,11 +120,14 @@ pub extern "C" fn meter_known(journal: &[u8], known: &mut [u64], res: &mut [u64]
     ensures { returned result (known_lent known.new res.new)
         ≡ serve_known (known_lent known.old res.old) journal.now }
 {
-    if let Err(unserved) = test_known(known.len(), res.len()) {
-        return unserved.code();
-    }
+    let Some(known) = known.as_mut_array() else {
+        return Unserved::NoState.code();
+    };
+    let Some(res) = res.as_mut_array() else {
+        return Unserved::NoAnswers.code();
+    };
     if !valid(journal) {
-        put_result(res, BAD_JOURNAL, 0);
+        put_result(res, Refusal::BadJournal.code(), 0);
         return CARRIED_OUT;
     }
     put_known(known, known_of(journal));

@@ -5,7 +5,7 @@ ghost use Rattle.recording.specs.Barred.{no_of, Sealable};
 use crate::before::too_long;
 use journal::entry::{ENTRY_BYTES, SEGMENT, TRAILER_BYTES};
 use journal::known::{Book, Known};
-use rules::numbers::WORD;
+use rules::numbers::{DONE, WORD};
 use rules::refusal::Refusal;
 use write_entry::entry::put_trailer;
 
@@ -44,4 +44,14 @@ pub fn flush(book: &mut Book<'_>) -> Result<(), Refusal>
     }
     seal(book);
     Ok(())
+}
+
+// What C reads of this, or a command's line says: the number of a refusal, or of none.
+pub fn number_of(done: Result<(), Refusal>) -> u32
+    ensures { result ≡ no_of done }
+{
+    match done {
+        Ok(()) => DONE,
+        Err(why) => why.code(),
+    }
 }

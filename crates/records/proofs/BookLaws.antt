@@ -3,6 +3,7 @@ use Rattle.std.specs.Prelude.{◌≡◌, ◌∷◌, ◌++◌, ◌+◌, ◌*◌, 
 use Rattle.kit.specs.Names.{refl, sym, ap, ◌∙◌, true, List, [], append_assoc, append-nil, ℕ, suc}
 use Rattle.kit.specs.Names.{length, get_or, set, take, drop, sets, length-append, length-drop, get_or-take, get_or-drop, length-take-le, take-set-le}
 use Rattle.kit.specs.Names.{add-one, arith, le_refl, lt-ltb, le-leb, eq-eqb}
+use Rattle.std.proofs.lemmas.Bool.{and_parts}
 use lib.Seq.{sets-eq, length-sets, take_at, take-add, take-take}
 use native.Mathlib.Nat.{div-eq_of_eq-mul_right}
 use Rattle.rules.specs.Rules.{WORD}
@@ -14,7 +15,7 @@ use Rattle.journal.specs.Journal.{trailer_bytes, trailer_of, journal, open_then,
 use Rattle.journal.specs.Append.{fills, entries_in, segment}
 use Rattle.journal.specs.Record.{known, next_place, Book, book, sealed}
 use Rattle.journal.proofs.ByteLaws.{length_number, length_entry, entry_back, entries_same, entries_add}
-use Rattle.journal.proofs.ReadLaws.{both, orderly_more, open_more}
+use Rattle.journal.proofs.ReadLaws.{orderly_more, open_more}
 use Rattle.journal.proofs.AppendLaws.{one_more}
 use Rattle.records.specs.Knows.{Knows, Onto}
 
@@ -60,20 +61,6 @@ knows_empty bs =
       sealable = λ h. absurd (omega arith);
       opened = refl;
       ordered = refl;
-    }
-
-pub knows_valid : (bs : Bytes) (used n : ℕ) (es : List Entry) → used ≤ length bs → journal_of (take used bs) ≡ journal n es → orderly 0 es ≡ true
-    → Knows bs (known used n (open_in 0 es) 0) es []
-unfolding entries_at
-knows_valid bs used n es h e o =
-    record {
-      is = e;
-      waits = refl;
-      within = omega arith;
-      few = omega arith;
-      sealable = λ k. absurd (omega arith);
-      opened = ap (open_in 0) (sym (append-nil es));
-      ordered = rw (append-nil es) o;
     }
 
 -- ---- a segment
@@ -124,7 +111,7 @@ module _ (bs : Bytes) (used n w : ℕ) (es ws : List Entry) (is : journal_of (ta
   full = rw (count, eq-eqb (length entries) (24 * w) long, le-leb 1 w some, le-leb w SEGMENT few)
 
   follows : orderly (open_in 0 es) ws ≡ true
-  follows = (both (orderly 0 es) (orderly (open_in 0 es) ws) (sym (orderly_more 0 es ws) ∙ ordered)).1
+  follows = (and_parts (orderly 0 es) (orderly (open_in 0 es) ws) (sym (orderly_more 0 es ws) ∙ ordered)).1
 
   pub segment_journal : journal_of (take (at + TRAILER-BYTES) (sets bs at trailer)) ≡ journal (suc n) (es ++ ws)
   segment_journal =

@@ -1,12 +1,12 @@
 -- The calls of a list of numbers have numbers of 32 and 64 bits, as the host's have. Assumes nothing.
 use Rattle.std.specs.Prelude.{◌≡◌, ◌&&◌, ◌∷◌, ◌≤◌}
 use Rattle.kit.specs.Names.{refl, Bool, true, false, cond, List, [], ℕ, zero, suc, leb, ltb, leb-true, arith}
+use Rattle.std.proofs.lemmas.Bool.{and_parts}
 use Rattle.rules.specs.Rules.{Call}
 use Rattle.journal.specs.declared.entry.Entry.{Entry}
 use Rattle.journal.specs.declared.entry.Entry.TheVariants.{EntryNew, EntryPost, EntryJoin, EntrySnapshot, EntryRollback, EntryCommit}
 use Rattle.journal.specs.Entry as entry
 use Rattle.journal.specs.Written.{entry_for}
-use Rattle.journal.proofs.ReadLaws.{both}
 use Rattle.coding.specs.Coding.{SHORT, LONG, UNUSED, CODES, form_of, fits, Asked, nothing, asked, asked_of, Listed, unlisted, calls, then, call_list}
 use Rattle.coding.specs.Coding.{calls_in}
 use Rattle.records.specs.Records.{AllFit, none, fit}
@@ -20,8 +20,8 @@ record Within (a b c x y z : ℕ) : Type 0 where
 
 within : (a b c x y z : ℕ) → leb a x && leb b y && leb c z ≡ true → Within a b c x y z
 within a b c x y z e =
-    let p = both (leb a x && leb b y) (leb c z) e in
-    let q = both (leb a x) (leb b y) p.0 in
+    let p = and_parts (leb a x && leb b y) (leb c z) e in
+    let q = and_parts (leb a x) (leb b y) p.0 in
     record { first = leb-true a x q.0; second = leb-true b y q.1; third = leb-true c z p.1 }
 
 alone : (e : Entry) → entry.Proper e → entry.AllProper (e ∷ [])

@@ -3,6 +3,7 @@ use Rattle.std.specs.Prelude.{◌≡◌, ◌||◌, ◌∷◌, ◌≤◌, ◌<◌
 use Rattle.kit.specs.Names.{refl, sym, ◌∙◌, Bool, true, false, cond, not, List, [], ℕ, length, eqb, ltb, add-one}
 use Rattle.kit.specs.Names.{arith}
 use Rattle.kit.specs.Names.{lt-ltb, eqb-false}
+use Rattle.std.proofs.lemmas.Bool.{cond_both}
 use Rattle.rules.specs.Rules.{Answer, Answered, Call, Mark, Sought, Value, DONE, KEYS-FULL, LOG-FULL, NO-KEY, NOT-INNERMOST, TOO-DEEP, BROKEN-TABLE}
 use Rattle.rules.specs.Rules.{BAD-STATE, SERIALS-SPENT, MAX-OPEN, MAX-U64, Table, value, owner_of, head_of, range, said, memory_of, full, Plan, Walked}
 use Rattle.rules.specs.Rules.{walk, walk_both, find_on, unioned_on, join_on, post_on, probe_on, probe_key_on, try_probe, innermost, not_innermost, unfit}
@@ -16,11 +17,6 @@ use Rattle.journal.specs.declared.entry.Entry.{Entry}
 use Rattle.journal.specs.declared.entry.Entry.TheVariants.{EntrySnapshot, EntryRollback, EntryCommit}
 use Rattle.journal.specs.Journal.{orderly, open_in}
 use Rattle.journal.specs.Written.{entry_for}
-
--- Both ends of a test; the second may use that it failed.
-unless : {A : Type 0} (P : A → Type 0) (b : Bool) {x y : A} → P x → (b ≡ false → P y) → P (cond b x y)
-unless P true p f = p
-unless P false p f = f refl
 
 -- ---- an outcome of a call with so many open before it, of which these entries would be written
 
@@ -57,7 +53,7 @@ module _ (t : Table) where
   Same o = o.table.state.«open» ≡ n
 
   same_refuse : (b : Bool) (k : ℕ) (rest : Outcome) → Same rest → Same (refuse b k t rest)
-  same_refuse b k rest s = unless Same b refl (λ _. s)
+  same_refuse b k rest s = cond_both b _ _ Same (λ _. refl) (λ _. s)
 
   same_carry : (p : Plan) → Same (carry t p)
   same_carry p = same_refuse (full (memory_of t) (length p.todo)) LOG-FULL _ refl
@@ -76,7 +72,7 @@ module _ (t : Table) where
 
   same_asked : (reply : Mark → Answer) (found : Sought) → (asked t.state reply found).state.«open» ≡ n
   same_asked reply None = refl
-  same_asked reply (Some m) = unless (λ (r : Answered). r.state.«open» ≡ n) (unfit (head_of t.state) m) refl (λ _. refl)
+  same_asked reply (Some m) = cond_both (unfit (head_of t.state) m) _ _ (λ (r : Answered). r.state.«open» ≡ n) (λ _. refl) (λ _. refl)
 
   same_ask : (token : ℕ) (reply : Mark → Answer) → Same (resting t (ask t.state token reply))
   same_ask token reply = same_asked reply (seek t.state token n)
@@ -97,8 +93,8 @@ module _ (t : Table) where
   unfolding open_in orderly
   counted_snapshot h =
       let P : Answered → Type 0 = λ r. As EntrySnapshot r.answer.no r.state.«open» in
-      unless P (eqb n MAX-OPEN) (refused n (EntrySnapshot ∷ []) TOO-DEEP refl) (λ e.
-      unless P (eqb t.state.last MAX-U64) (refused n (EntrySnapshot ∷ []) SERIALS-SPENT refl) (λ _.
+      cond_both (eqb n MAX-OPEN) _ _ P (λ _. refused n (EntrySnapshot ∷ []) TOO-DEEP refl) (λ e.
+      cond_both (eqb t.state.last MAX-U64) _ _ P (λ _. refused n (EntrySnapshot ∷ []) SERIALS-SPENT refl) (λ _.
       let low : n < MAX-OPEN = omega (arith, eqb-false n MAX-OPEN e) in
       record { opened = add-one n; ordered = rw (lt-ltb n MAX-OPEN low) }))
 
@@ -108,9 +104,9 @@ module _ (t : Table) where
       let s = t.state in
       let m = innermost s in
       let P : Outcome → Type 0 = λ o. As EntryRollback o.answer.no o.table.state.«open» in
-      unless P (not_innermost s token) (refused n (EntryRollback ∷ []) NOT-INNERMOST refl) (λ e.
-      unless P (unfit (head_of s) m || not (undoable m.keys s.count (since t.log (head_of s) m)))
-      (refused n (EntryRollback ∷ []) BROKEN-TABLE refl) (λ _.
+      cond_both (not_innermost s token) _ _ P (λ _. refused n (EntryRollback ∷ []) NOT-INNERMOST refl) (λ e.
+      cond_both (unfit (head_of s) m || not (undoable m.keys s.count (since t.log (head_of s) m))) _ _ P
+      (λ _. refused n (EntryRollback ∷ []) BROKEN-TABLE refl) (λ _.
       record { opened = refl; ordered = rw (lt-ltb 0 n (some_open token e)) }))
 
   counted_commit : (token : ℕ) → As EntryCommit (commit t.state token).answer.no (commit t.state token).state.«open»
@@ -118,8 +114,8 @@ module _ (t : Table) where
   counted_commit token =
       let s = t.state in
       let P : Answered → Type 0 = λ r. As EntryCommit r.answer.no r.state.«open» in
-      unless P (not_innermost s token) (refused n (EntryCommit ∷ []) NOT-INNERMOST refl) (λ e.
-      unless P (unfit (head_of s) (innermost s) || stranded (head_of s) (innermost s)) (refused n (EntryCommit ∷ []) BROKEN-TABLE refl) (λ _.
+      cond_both (not_innermost s token) _ _ P (λ _. refused n (EntryCommit ∷ []) NOT-INNERMOST refl) (λ e.
+      cond_both (unfit (head_of s) (innermost s) || stranded (head_of s) (innermost s)) _ _ P (λ _. refused n (EntryCommit ∷ []) BROKEN-TABLE refl) (λ _.
       record { opened = refl; ordered = rw (lt-ltb 0 n (some_open token e)) }))
 
   -- ---- any call
@@ -149,5 +145,5 @@ module _ (t : Table) where
   pub counted : (c : Call) → AsWritten c (step t c)
   unfolding step
   counted c =
-      unless (AsWritten c) (bad_table t) (refused n (entry_for c) BAD-STATE refl) (λ g.
+      cond_both (bad_table t) _ _ (AsWritten c) (λ _. refused n (entry_for c) BAD-STATE refl) (λ g.
       counted_call (bad_good (sizes_of t.rows t.log) (head_of t.state) g).opened c)

@@ -2,6 +2,7 @@
 use Rattle.std.specs.Prelude.{◌≡◌, ◌||◌, ◌&&◌, ◌∷◌, ◌++◌, ◌+◌, ◌*◌, ◌≤◌, ◌<◌}
 use Rattle.kit.specs.Names.{refl, sym, ap, ◌∙◌, Bool, true, false, cond, not, List, [], append_assoc, append-nil, ℕ, suc}
 use Rattle.kit.specs.Names.{length, sets, eqb, leb, arith, dec_lt, ℕ_discrete, eq-eqb, ne_eqb, lt-leb, le-ltb, lt-ltb, ltb-false, leb-false}
+use Rattle.std.proofs.lemmas.Bool.{and_parts, or_parts}
 use Rattle.rules.specs.Rules.{Call, WORD, DONE, BAD-JOURNAL, NO-ROOM, Table, step, refusal}
 use Rattle.rules.specs.declared.call.Call.TheVariants.{New, Len, Find, Unioned, Join, Post, Probe, ProbeKey, TryProbe, Snapshot, Rollback, Commit}
 use Rattle.rules.specs.declared.call.Call.TheVariants.{Keys, Actions, Changes}
@@ -13,17 +14,12 @@ use Rattle.journal.specs.Journal.{journal, orderly, open_in, open_then, may_stan
 use Rattle.journal.specs.Written.{entry_for, written}
 use Rattle.journal.specs.Record.{known, next_place, mismatched, too_long, Book, book, put_down, is_written, recorded, written_down, record_step}
 use Rattle.journal.specs.Record.{record_all, flush}
-use Rattle.journal.proofs.ReadLaws.{both}
 use Rattle.records.specs.Knows.{Knows, Onto}
 use Rattle.records.specs.Records.{written_in, none, fit, Writes, ExactlyWritten, AllFlushed, Day}
 use Rattle.records.proofs.OpenLaws.{counted}
 use Rattle.records.proofs.BookLaws.{onto, onto_same, onto_then, knows_empty, knows_sealed, onto_sealed, knows_put}
 
 -- ---- Bool
-
-neither : (x y : Bool) → x || y ≡ false → (x ≡ false) × (y ≡ false)
-neither false y e = (refl, e)
-neither true y e = absurd (let z : ◌≡◌ {A = ℕ} 0 1 = cc in omega arith)
 
 -- ---- at most one entry
 
@@ -66,8 +62,8 @@ module _ {bs : Bytes} {k : Known} {es ws : List Entry} (K : Knows bs k es ws) wh
 
   room_of : (n : ℕ) → mismatched k n ≡ false → too_long 1 (length bs) k ≡ false → Room
   room_of n m l =
-      let a = neither (not (eqb k.«open» n) || leb SEGMENT k.waiting) (leb WORD k.segments) m in
-      let b = neither (not (eqb k.«open» n)) (leb SEGMENT k.waiting) a.0 in
+      let a = or_parts (not (eqb k.«open» n) || leb SEGMENT k.waiting) (leb WORD k.segments) m in
+      let b = or_parts (not (eqb k.«open» n)) (leb SEGMENT k.waiting) a.0 in
       let h = ltb-false (length bs) (next_place k + ENTRY-BYTES * 1 + TRAILER-BYTES) l in
       record { room = omega arith; few = leb-false SEGMENT k.waiting b.1; numbered = leb-false WORD k.segments a.1 }
 
@@ -75,7 +71,7 @@ module _ {bs : Bytes} {k : Known} {es ws : List Entry} (K : Knows bs k es ws) wh
       → Done (book bs k) (es ++ ws) (e ∷ []) (put_down bs k (e ∷ []) opened) opened
   unfolding open_in orderly
   one_entry e (proper p ps) R opened q o =
-      let may = (both (may_stand k.«open» e) true o).0 in
+      let may = (and_parts (may_stand k.«open» e) true o).0 in
       let next = known k.used k.segments (open_then k.«open» e) (suc k.waiting) in
       let bytes = sets bs (next_place k) (entry_bytes e) in
       let K' = knows_put K e p R.room R.few R.numbered may in

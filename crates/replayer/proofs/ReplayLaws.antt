@@ -1,46 +1,40 @@
--- What the tests and a replay come to is what the exported replay leaves. Assumes nothing.
+-- What the lengths and a replay come to is what the exported replay leaves. Assumes nothing.
 use Rattle.std.specs.Prelude.{◌≡◌}
-use Rattle.kit.specs.Names.{refl, sym, ap, ◌∙◌, Bool, true, false, cond, not, List, ℕ, length, eqb, arith}
+use Rattle.kit.specs.Names.{sym, ap, ◌∙◌, List, ℕ, length, eq-eqb, ne_eqb}
 use Rattle.rules.specs.Rules.{Rows, Log, table}
-use Rattle.layout.specs.State.{Sized, state_of, state_numbers, state_serials}
+use Rattle.layout.specs.State.{NUMBERS, SERIALS, Sized, state_of, state_numbers, state_serials}
 use Rattle.layout.proofs.LayoutLaws.{numbers_state}
 use Rattle.journal.specs.Entry.{Bytes}
 use Rattle.journal.specs.Replay.{Replayed, replay_bytes}
 use Rattle.admit.specs.Admit.{CARRIED-OUT, NO-STATE, NO-ANSWERS}
-use Rattle.results.specs.Results.{RESULT, result_numbers, result_admission}
+use Rattle.results.specs.Results.{RESULT, result_numbers}
 use Rattle.replaying.specs.Ended.{replayed_by}
 use Rattle.runs.specs.Served.{Host, host, table_of}
-use Rattle.host.specs.Host.{Hosted, hosted, refuse_host, stateless}
+use Rattle.host.specs.Host.{hosted}
 use Rattle.replayer.specs.Replaying.{replay_served, serve_replay}
 
--- The code by the two tests, and the outcome that goes with it.
-abbrev code_by : Bool → Bool → ℕ
-code_by a b = cond a NO-STATE (cond b CARRIED-OUT NO-ANSWERS)
+-- ---- the lengths of what is lent decide
 
-module _ (h : Host) (x : Hosted) where
-  away : (a b : Bool) → (code_by a b ≡ CARRIED-OUT → ⊥) → hosted (code_by a b) h ≡ refuse_host a NO-STATE h (refuse_host (not b) NO-ANSWERS h x)
-  away true b d = refl
-  away false true d = absurd (d refl)
-  away false false d = refl
+module _ (h : Host) (bs : Bytes) (n : ℕ) where
+  pub no_numbers : n ≡ NO-STATE → (length h.numbers ≡ NUMBERS → ⊥) → hosted n h ≡ serve_replay h bs
+  unfolding serve_replay
+  no_numbers q d = rw (q, ne_eqb (length h.numbers) NUMBERS d)
 
-  out : (a b : Bool) → code_by a b ≡ CARRIED-OUT → x ≡ refuse_host a NO-STATE h (refuse_host (not b) NO-ANSWERS h x)
-  out true b e = absurd (omega arith)
-  out false true e = refl
-  out false false e = absurd (omega arith)
+  module _ (fit : length h.numbers ≡ NUMBERS) where
+    pub no_serials : n ≡ NO-STATE → (length h.serials ≡ SERIALS → ⊥) → hosted n h ≡ serve_replay h bs
+    unfolding serve_replay
+    no_serials q d = rw (q, eq-eqb (length h.numbers) NUMBERS fit, ne_eqb (length h.serials) SERIALS d)
 
-abbrev pub replay_code : Host → ℕ
-replay_code h = result_admission (length h.numbers) (length h.serials) (length h.answers)
+    module _ (there : length h.serials ≡ SERIALS) where
+      pub no_result : n ≡ NO-ANSWERS → (length h.answers ≡ RESULT → ⊥) → hosted n h ≡ serve_replay h bs
+      unfolding serve_replay
+      no_result q d =
+          rw (q, eq-eqb (length h.numbers) NUMBERS fit, eq-eqb (length h.serials) SERIALS there, ne_eqb (length h.answers) RESULT d)
 
-module _ (h : Host) (bs : Bytes) (n : ℕ) (q : n ≡ replay_code h) where
-  pub replay_away : (n ≡ CARRIED-OUT → ⊥) → hosted n h ≡ serve_replay h bs
-  unfolding result_admission serve_replay
-  replay_away d =
-      ap (λ (k : ℕ). hosted k h) q ∙ away h (hosted CARRIED-OUT (replay_served h bs)) (stateless h) (eqb (length h.answers) RESULT) (λ e. d (q ∙ e))
-
-  pub replay_out : (h' : Host) → n ≡ CARRIED-OUT → h' ≡ replay_served h bs → hosted n h' ≡ serve_replay h bs
-  unfolding result_admission serve_replay
-  replay_out h' e w =
-      rw (e, w) (out h (hosted CARRIED-OUT (replay_served h bs)) (stateless h) (eqb (length h.answers) RESULT) (sym q ∙ e))
+      pub replay_out : (h' : Host) → n ≡ CARRIED-OUT → length h.answers ≡ RESULT → h' ≡ replay_served h bs → hosted n h' ≡ serve_replay h bs
+      unfolding serve_replay
+      replay_out h' q e w =
+          rw (q, w, eq-eqb (length h.numbers) NUMBERS fit, eq-eqb (length h.serials) SERIALS there, eq-eqb (length h.answers) RESULT e)
 
 -- A replay in parts, as what the exported one leaves.
 pub as_served : (h : Host) (bs : Bytes) (ns ss : List ℕ) (rs : Rows) (l : Log) (result : List ℕ) (n place : ℕ) → Sized ns ss

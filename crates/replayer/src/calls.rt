@@ -4,10 +4,10 @@ ghost use Rattle.runs.specs.Served.{host_lent};
 ghost use Rattle.host.specs.Host.{hosted};
 ghost use Rattle.replayer.specs.Replaying.{serve_replay};
 
-use admit::tests::{CARRIED_OUT, NO_STATE};
+use admit::tests::{CARRIED_OUT, Unserved};
 use layout::state::LentState;
 use replaying::replay::replay;
-use results::results::{put_result, test_result};
+use results::results::put_result;
 use rules::table::Lent;
 
 // Replays a journal, which is judged whole before its first entry.
@@ -26,14 +26,14 @@ pub extern "C" fn meter_replay(
         let after = host_lent numbers.new serials.new parents.new crowns.new amounts.new log.new res.new in
         hosted result after ≡ serve_replay h journal.now }
 {
-    if let Err(unserved) = test_result(numbers.len(), serials.len(), res.len()) {
-        return unserved.code();
-    }
     let Some(numbers) = numbers.as_mut_array() else {
-        return NO_STATE;
+        return Unserved::NoState.code();
     };
     let Some(serials) = serials.as_mut_array() else {
-        return NO_STATE;
+        return Unserved::NoState.code();
+    };
+    let Some(res) = res.as_mut_array() else {
+        return Unserved::NoAnswers.code();
     };
     let mut state = LentState { numbers, serials };
     let mut lent = Lent {

@@ -1,18 +1,20 @@
 // Document 02, Q-1: "Replay stops at the first entry not answered DONE and names it."
-ghost use Rattle.std.specs.Prelude.{◌≡◌, true};
+ghost use Rattle.std.specs.Prelude.{◌≡◌, true, length};
 ghost use Rattle.rules.specs.Rules.{table_in, SameParts};
-ghost use Rattle.layout.specs.Lent.{SameState, state_in, state_under};
+ghost use Rattle.layout.specs.State.{NUMBERS};
+ghost use Rattle.layout.specs.Lent.{SameState, state_in};
+ghost use Rattle.numbered.specs.Going.{going_table, SameGoing};
 ghost use Rattle.journal.specs.Journal.{valid};
 ghost use Rattle.journal.specs.Replay.{replay_bytes};
 ghost use Rattle.replaying.specs.Ended.{replayed_by};
 
-use bad_state::bad::{bad_after, bad_lent};
-use entry_read::read::entry_at;
-use journal::entry::{ENTRY_BYTES, TRAILER_BYTES};
+use bad_state::bad::bad_lent;
+use entry_read::walk::Entries;
 use layout::state::LentState;
-use little_endian::read::u32_at;
+use numbered::going::Going;
 use replay_one::one::replay_entry;
-use rules::numbers::{BAD_JOURNAL, DONE};
+use rules::numbers::DONE;
+use rules::refusal::Refusal;
 use rules::table::{Head, Lent};
 use valid::valid::valid;
 use write_state::after::write_head;
@@ -26,43 +28,43 @@ pub struct Ended {
     pub head: Head,
 }
 
-// A valid journal, entry by entry from the front, the head at hand: an entry begins with its kind, and a trailer, which is passed over,
-// with its distance, which is at least an entry's length. What stands at a place says how far it is to the next one, so the place is no
-// `for`'s.
-fn replay_valid(state: &mut LentState<'_>, lent: &mut Lent<'_>, bytes: &[u8], begun: Head) -> Ended
+// A valid journal, entry by entry from the front, the head at hand.
+fn replay_valid(going: &mut Going<'_, '_, '_, '_>, bytes: &[u8]) -> Ended
     requires bytes_value { valid bytes.now ≡ true }
-    ensures same_state { SameState state.old state.new }
-    ensures same_parts { SameParts lent.old lent.new }
-    ensures value { replayed_by result.no result.entry (table_in lent.new (state_under result.head state.new))
-        ≡ replay_bytes bytes.now (table_in lent.old (state_under begun state.old)) }
+    ensures same_going { SameGoing going.old going.new }
+    ensures head { result.head ≡ going.new.head }
+    ensures value { replayed_by result.no result.entry (going_table going.new) ≡ replay_bytes bytes.now (going_table going.old) }
 {
-    let mut head = begun;
-    let mut is_bad = bad_lent(head, lent);
-    let mut at = 0;
-    let mut entry = 0;
-    while at < bytes.len() {
-        if u32_at(bytes, at) as usize >= ENTRY_BYTES {
-            at += TRAILER_BYTES;
-            continue;
-        }
-        let settled = replay_entry(state, lent, head, is_bad, entry_at(bytes, at));
-        head = settled.head;
-        if settled.answer.no != DONE {
+    let mut place = 0;
+    for entry in Entries::new(bytes) {
+        let answer = replay_entry(going, entry);
+        if answer.no != DONE {
             return Ended {
-                no: settled.answer.no,
-                entry,
-                head,
+                no: answer.no,
+                entry: place,
+                head: going.head,
             };
         }
-        is_bad = bad_after(is_bad, head);
-        at += ENTRY_BYTES;
-        entry += 1;
+        place += 1;
     }
     Ended {
         no: DONE,
-        entry,
-        head,
+        entry: place,
+        head: going.head,
     }
+}
+
+// The same, and the head that is left is written.
+fn replay_on(going: &mut Going<'_, '_, '_, '_>, bytes: &[u8]) -> Ended
+    requires bytes_value { valid bytes.now ≡ true }
+    requires numbers { length going.old.state.now.numbers.now ≡ NUMBERS }
+    ensures same_going { SameGoing going.old going.new }
+    ensures value { replayed_by result.no result.entry (table_in going.new.lent.now (state_in going.new.state.now))
+        ≡ replay_bytes bytes.now (going_table going.old) }
+{
+    let ended = replay_valid(going, bytes);
+    write_head(going.state, ended.head);
+    ended
 }
 
 // Any bytes, on any table whose state is lent as numbers. What isn't a journal changes nothing.
@@ -75,12 +77,17 @@ pub fn replay(state: &mut LentState<'_>, lent: &mut Lent<'_>, bytes: &[u8]) -> E
     let head = state.head();
     if !valid(bytes) {
         return Ended {
-            no: BAD_JOURNAL,
+            no: Refusal::BadJournal.code(),
             entry: 0,
             head,
         };
     }
-    let ended = replay_valid(state, lent, bytes, head);
-    write_head(state, ended.head);
-    ended
+    let is_bad = bad_lent(head, lent);
+    let mut going = Going {
+        state,
+        lent,
+        head,
+        is_bad,
+    };
+    replay_on(&mut going, bytes)
 }

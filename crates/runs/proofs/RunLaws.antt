@@ -1,13 +1,11 @@
 -- A list of calls on lent numbers is a run of the rules' step. Assumes nothing.
-use Rattle.std.specs.Prelude.{◌≡◌, ◌&&◌, ◌||◌, ◌++◌, ◌+◌, ◌-◌, ◌*◌, ◌/◌, ◌≤◌, ◌<◌}
+use Rattle.std.specs.Prelude.{◌≡◌, ◌&&◌, ◌++◌, ◌+◌, ◌-◌, ◌*◌, ◌/◌, ◌≤◌, ◌<◌}
 use Rattle.kit.specs.Names.{refl, sym, ap, ◌∙◌, subst, Bool, true, false, cond, List, [], ℕ, zero, suc, length, get_or, drop, sets, ltb, drop-length, arith}
-use Rattle.rules.specs.Rules.{Answer, Call, Head, Sought, State, Table, table, head_of, answer_numbers, Outcome, outcome, sizes_of, stray, bad}
-use Rattle.rules.specs.Rules.{bad_table, step}
+use Rattle.rules.specs.Rules.{Answer, Call, Head, Sought, State, Table, table, answer_numbers, Outcome, outcome, step}
 use Rattle.rules.specs.declared.call.Call.TheVariants.{Rollback, Keys}
 use Rattle.std.specs.Prelude.{None}
-use Rattle.bad_state.proofs.GoodLaws.{bad_after}
-use Rattle.layout.specs.State.{Sized, head_in, state_by, headed}
-use Rattle.layout.proofs.LayoutLaws.{no_mark, commit_mark, actions_mark, changes_mark, numbers_state, headed_state, headed_length, headed_same}
+use Rattle.layout.specs.State.{Sized, state_by, headed}
+use Rattle.layout.proofs.LayoutLaws.{no_mark, commit_mark, actions_mark, changes_mark, numbers_state, headed_state, headed_length}
 use Rattle.undo_log.specs.Settled.{mark_of, mark_for}
 use Rattle.coding.specs.Coding.{nothing, asked, CODES, form_of, fits, is_asked, asked_of, asked_at, call_in, call_list, is_listed, calls_in, call_at}
 use Rattle.coding.specs.Answers.{answers_numbers}
@@ -38,21 +36,7 @@ pub record Going (h₀ h : Host) (l : List ℕ) (at to : ℕ) : Type 0 where
   pub answers : sets h.answers to (answers_numbers (run (table_of h) (calls_in (call_list (drop at l)))).answers)
       ≡ sets h₀.answers 0 (answers_numbers (run (table_of h₀) (calls_in (call_list l))).answers)
 
-pub going_starts : (h : Host) (l : List ℕ) → Sized h.numbers h.serials → is_listed (call_list l) ≡ true
-    → 9 * length l ≤ 4 * length h.answers → Going h h l 0 0
-going_starts h l z c r =
-    record {
-      kept = omega arith;
-      sized = z;
-      calls = c;
-      within = omega arith;
-      pace = refl;
-      room = r;
-      table = refl;
-      answers = refl;
-    }
-
-nine_on : (l : List ℕ) (to : ℕ) (a : Answer) (ns : List ℕ) → sets (sets l to (answer_numbers a)) (to + 9) ns ≡ sets l to (answer_numbers a ++ ns)
+pub nine_on : (l : List ℕ) (to : ℕ) (a : Answer) (ns : List ℕ) → sets (sets l to (answer_numbers a)) (to + 9) ns ≡ sets l to (answer_numbers a ++ ns)
 nine_on l to a ns = let e : to + 9 ≡ suc (suc (suc (suc (suc (suc (suc (suc (suc to)))))))) = omega arith in rw e
 
 module _ (h₀ h : Host) (l : List ℕ) (at to : ℕ) (g : Going h₀ h l at to) where
@@ -106,22 +90,10 @@ module _ (h₀ h : Host) (l : List ℕ) (at to : ℕ) (g : Going h₀ h l at to)
 abbrev pub written_host : Head → Host → Host
 written_host hd h = host (headed h.numbers hd) h.serials h.rows h.log h.answers
 
--- The calls go on as they would if it were, and whether the table is bad is known.
-pub record Keeping (h₀ : Host) (hd : Head) (b : Bool) (h : Host) (l : List ℕ) (at to : ℕ) : Type 0 where
+-- The calls go on as they would if it were.
+pub record Keeping (h₀ : Host) (hd : Head) (h : Host) (l : List ℕ) (at to : ℕ) : Type 0 where
   pub going : Going h₀ (written_host hd h) l at to
   pub sized : Sized h.numbers h.serials
-  pub is_bad : b ≡ bad (sizes_of h.rows h.log) hd
-
-pub keeping_starts : (h : Host) (l : List ℕ) → Sized h.numbers h.serials → is_listed (call_list l) ≡ true
-    → 9 * length l ≤ 4 * length h.answers → (hd : Head) (b : Bool) → hd ≡ head_in h.numbers → b ≡ bad (sizes_of h.rows h.log) hd
-    → Keeping h hd b h l 0 0
-keeping_starts h l z c r hd b e q =
-    let same : h.numbers ≡ headed h.numbers hd = sym (ap (headed h.numbers) e ∙ headed_same h.numbers z.numbers) in
-    record {
-      going = subst (λ (ns : List ℕ). Going h (host ns h.serials h.rows h.log h.answers) l 0 0) same (going_starts h l z c r);
-      sized = z;
-      is_bad = q;
-    }
 
 -- The table of a head at hand.
 abbrev pub table_by : Head → Host → Table
@@ -131,24 +103,21 @@ written : (h : Host) (hd : Head) → Sized h.numbers h.serials
     → table_of (written_host hd h) ≡ table_by hd h
 written h hd z = ap {B = Table} (table h.rows h.log) (headed_state h.numbers h.serials hd z.numbers)
 
-module _ (h₀ : Host) (hd : Head) (b : Bool) (h : Host) (l : List ℕ) (at to : ℕ) (k : Keeping h₀ hd b h l at to) where
-  pub keeping_on : at < length l → (h' : Host) (a : Answer) (hd' : Head) (b' : Bool) → outcome a (table_by hd' h') ≡ step (table_by hd h) (call_at l at)
-      → h'.answers ≡ sets h.answers to (answer_numbers a) → Kept h h' → b' ≡ (b || stray hd') → Keeping h₀ hd' b' h' l (at + 4) (to + 9)
-  keeping_on i h' a hd' b' e w m q =
+module _ (h₀ : Host) (hd : Head) (h : Host) (l : List ℕ) (at to : ℕ) (k : Keeping h₀ hd h l at to) where
+  pub keeping_on : at < length l → (h' : Host) (a : Answer) (hd' : Head) → outcome a (table_by hd' h') ≡ step (table_by hd h) (call_at l at)
+      → h'.answers ≡ sets h.answers to (answer_numbers a) → Kept h h' → Keeping h₀ hd' h' l (at + 4) (to + 9)
+  keeping_on i h' a hd' e w m =
       let z : Sized h'.numbers h'.serials = omega (arith, m, k.sized) in
-      let u : table_by hd' h' ≡ (step (table_by hd h) (call_at l at)).table = ap (λ (x : Outcome). x.table) e in
       let o = ap {B = Outcome} (outcome a) (written h' hd' z) ∙ e ∙ ap {B = Outcome} (λ (x : Table). step x (call_at l at)) (sym (written h hd k.sized)) in
       record {
         going = going_on h₀ (written_host hd h) l at to k.going i (written_host hd' h') a (call_at l at) refl o w
             (omega (arith, m, headed_length h.numbers hd, headed_length h'.numbers hd'));
         sized = z;
-        is_bad = q
-            ∙ subst (λ (x : Table). (b || stray (head_of x.state)) ≡ bad_table x) (sym u) (bad_after (table_by hd h) (call_at l at) b k.is_bad);
       }
 
   -- At the same places, said otherwise.
-  pub keeping_at : (at' to' : ℕ) → at ≡ at' → to ≡ to' → Keeping h₀ hd b h l at' to'
-  keeping_at at' to' p q = subst (λ (x : ℕ). Keeping h₀ hd b h l x to') p (subst (λ (y : ℕ). Keeping h₀ hd b h l at y) q k)
+  pub keeping_at : (at' to' : ℕ) → at ≡ at' → to ≡ to' → Keeping h₀ hd h l at' to'
+  keeping_at at' to' p q = subst (λ (x : ℕ). Keeping h₀ hd h l x to') p (subst (λ (y : ℕ). Keeping h₀ hd h l at y) q k)
 
 -- Each four of a list are what stands at four times their place.
 pub four_of : (fours : List (List ℕ)) (l : List ℕ) (i : ℕ) → fours ≡ first_chunks 4 (length l / 4) l → i < length l / 4

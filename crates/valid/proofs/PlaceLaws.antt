@@ -2,6 +2,7 @@
 use Rattle.std.specs.Prelude.{◌≡◌, ◌&&◌, ◌++◌, ◌+◌, ◌-◌, ◌≤◌, ◌<◌}
 use Rattle.kit.specs.Names.{refl, sym, ap, ◌∙◌, Bool, true, false, cond, List, [], ℕ, suc}
 use Rattle.kit.specs.Names.{length, eqb, leb, arith, ℕ_discrete, dec_lt, le-ltb, lt-ltb, eq-eqb, ne_eqb, le-leb, lt-leb, eqb-true}
+use Rattle.std.proofs.lemmas.Bool.{and_parts}
 use mathlib.Core.Bool.{and-false, and_assoc}
 use native.Mathlib.Nat.{zero-add}
 use Rattle.rules.specs.Rules.{MAX-OPEN}
@@ -10,7 +11,7 @@ use Rattle.journal.specs.Numbers.{TRAILER-BYTES}
 use Rattle.journal.specs.Entry.{Bytes, little_at, entries_at}
 use Rattle.journal.specs.Journal.{trailer_at, points, Journal, no_journal, journal, followed, read_to, orderly, open_in, tested, is_journal, journal_of}
 use Rattle.journal.specs.Journal.{valid}
-use Rattle.journal.proofs.ReadLaws.{both, tested_orderly, orderly_more, open_more, read_nothing, read_short, read_trailer}
+use Rattle.journal.proofs.ReadLaws.{tested_orderly, orderly_more, open_more, read_nothing, read_short, read_trailer}
 use Rattle.valid.specs.declared.place.Place.{Place}
 use Rattle.valid.specs.declared.window.Window.{Window}
 use Rattle.valid.specs.Window.{admits, narrowed}
@@ -208,7 +209,7 @@ told_right bs n es e =
     ∙ all_read bs w
     ∙ ap (followed_by w) e
     ∙ any_open (open_in 0 es) (open_in_lem es 0 (omega arith) t.1) in
-    sym (eqb-true n (segments_told bs) (both (eqb n (segments_told bs)) (orderly 0 es && admits w (open_in 0 es)) yes).0)
+    sym (eqb-true n (segments_told bs) (and_parts (eqb n (segments_told bs)) (orderly 0 es && admits w (open_in 0 es)) yes).0)
 
 -- Q-1: "12 when the journal isn't valid or wouldn't be with it". Entries may follow a journal where the window before them admits what it
 -- leaves open.

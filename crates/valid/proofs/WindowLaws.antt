@@ -3,18 +3,16 @@ use Rattle.std.specs.Prelude.{◌≡◌, ◌&&◌, ◌∷◌, ◌++◌, ◌+◌,
 use Rattle.kit.specs.Names.{refl, sym, ap, ◌∙◌, Bool, true, false, List, [], ℕ, suc, length}
 use Rattle.std.specs.Prelude.{◌↔◌}
 use Rattle.kit.specs.Names.{leb, ltb, arith, dec_lt, dec_le, le-leb, lt-leb, lt-ltb, le-ltb, ltb-true, lt_of_not-le}
+use Rattle.std.proofs.lemmas.Bool.{and_parts}
 use mathlib.Core.Bool.{and-false, and_assoc}
 use Rattle.rules.specs.Rules.{MAX-OPEN}
 use Rattle.journal.specs.declared.entry.Entry.{Entry}
 use Rattle.journal.specs.declared.entry.Entry.TheVariants.{EntryNew, EntryPost, EntryJoin, EntrySnapshot, EntryRollback, EntryCommit, NoEntry}
-use Rattle.journal.specs.Entry.{Bytes, little_at, entry_of, read_entry, entries_at}
+use Rattle.journal.specs.Entry.{Bytes, read_entry, entries_at}
 use Rattle.journal.specs.Journal.{open_then, may_stand, orderly, open_in}
 use Rattle.journal.proofs.ByteLaws.{entries_add}
-use Rattle.journal.proofs.ReadLaws.{both}
-use Rattle.entries.specs.Most.{is_entry, made_of}
-use Rattle.entries.proofs.KindLaws.{Kind, kind_of_lem, new, post, join, snapshot, rollback, commit, none, no_entry, made, none_there}
 use Rattle.valid.specs.declared.window.Window.{Window}
-use Rattle.valid.specs.Window.{Small, admits, opens_of, closes_of, moved, narrow, narrowed}
+use Rattle.valid.specs.Window.{Small, admits, moved, narrow, narrowed}
 
 -- ---- the window's numbers stay small: an entry adds one at most, and has 24 bytes
 
@@ -109,7 +107,7 @@ pub open_in_lem : (es : List Entry) (n : ℕ) → n ≤ MAX-OPEN → orderly n e
 unfolding orderly open_in
 open_in_lem [] n h o = h
 open_in_lem (e ∷ es) n h o =
-    let b = both (may_stand n e) (orderly (open_then n e) es) o in
+    let b = and_parts (may_stand n e) (orderly (open_then n e) es) o in
     open_in_lem es (open_then n e) (open_after_lem e n h b.0) b.1
 
 -- ---- before entries one after the other
@@ -157,30 +155,3 @@ module _ (bs : Bytes) (start : ℕ) (all now : Window) (left : ℕ) (so_far : al
   pub no_entries : left ≤ 0 → now ≡ all
   unfolding entries_at narrowed
   no_entries h = let none : left ≡ 0 = omega arith in sym (so_far ∙ ap (λ n. narrowed (entries_at n bs start) now) none)
-
--- ---- an entry by its kind
-
-module _ (a b owner amount : ℕ) (w : Window) where
-  kind_moves : {kind : ℕ} → Kind kind → is_entry (entry_of kind a b owner amount) ≡ true
-      → moved (opens_of kind) (closes_of kind) w ≡ narrow (made_of kind a b owner amount) w
-  kind_moves new h = refl
-  kind_moves post h = refl
-  kind_moves join h = refl
-  kind_moves snapshot h = refl
-  kind_moves rollback h = refl
-  kind_moves commit h = refl
-  kind_moves (none {k} n1 n2 n3 n4 n5 n6) h =
-      absurd (let no = ap is_entry (no_entry k a b owner amount n1 n2 n3 n4 n5 n6) in let z : ◌≡◌ {A = ℕ} 0 1 = cc in omega arith)
-
-pub narrow_entry : (bs : Bytes) (at : ℕ) (w : Window) → is_entry (read_entry bs at) ≡ true
-    → moved (opens_of (little_at 4 bs at)) (closes_of (little_at 4 bs at)) w ≡ narrow (read_entry bs at) w
-narrow_entry bs at w h =
-    let kind = little_at 4 bs at in
-    let a = little_at 4 bs (at + 4) in
-    let b = little_at 4 bs (at + 8) in
-    let owner = little_at 4 bs (at + 12) in
-    let amount = little_at 8 bs (at + 16) in
-    kind_moves a b owner amount w (kind_of_lem kind) h ∙ ap (λ e. narrow e w) (made kind a b owner amount h)
-
-pub narrow_none : (bs : Bytes) (at : ℕ) (w : Window) → is_entry (read_entry bs at) ≡ false → record { least = 0; rise = 33 } ≡ narrow (read_entry bs at) w
-narrow_none bs at w h = ap (λ e. narrow e w) (sym (none_there (read_entry bs at) h))

@@ -5,7 +5,7 @@ ghost use Rattle.journal.specs.Entry.{fields, entry_bytes};
 ghost use Rattle.journal.specs.Journal.{trailer_bytes, trailer_of};
 ghost use Rattle.write_entry.specs.Fields.{field_bytes};
 
-use crate::bytes::{put_u32, put_u64};
+use crate::bytes::put;
 use journal::entry::{
     ENTRY_COMMIT, ENTRY_JOIN, ENTRY_NEW, ENTRY_POST, ENTRY_ROLLBACK, ENTRY_SNAPSHOT, Entry,
 };
@@ -69,27 +69,25 @@ impl From<Entry> for Fields {
 }
 
 // Writes an entry from a place on.
-#[tactic(auto, using(crate::proofs::ByteLaws::fields_written))]
 pub fn put_entry(bytes: &mut [u8], at: usize, entry: Entry)
     requires { at + 24 ≤ length bytes.old }
     ensures { bytes.new ≡ sets bytes.old at (entry_bytes entry) }
 {
     let fields = Fields::from(entry);
-    put_u32(bytes, at, fields.kind);
-    put_u32(bytes, at + 4, fields.a);
-    put_u32(bytes, at + 8, fields.b);
-    put_u32(bytes, at + 12, fields.owner);
-    put_u64(bytes, at + 16, fields.amount);
+    put(bytes, at, fields.kind.to_le_bytes());
+    put(bytes, at + 4, fields.a.to_le_bytes());
+    put(bytes, at + 8, fields.b.to_le_bytes());
+    put(bytes, at + 12, fields.owner.to_le_bytes());
+    put(bytes, at + 16, fields.amount.to_le_bytes());
 }
 
 // "the distance back from the trailer's first byte to the segment's first, the entry count, the segment number from 0"
-#[tactic(auto, using(crate::proofs::ByteLaws::trailer_written))]
 pub fn put_trailer(bytes: &mut [u8], at: usize, number: u32, count: u32)
     requires at_in_bounds { at + 12 ≤ length bytes.old }
     requires count_bound { count ≤ SEGMENT }
     ensures { bytes.new ≡ sets bytes.old at (trailer_bytes (trailer_of number count)) }
 {
-    put_u32(bytes, at, 24 * count);
-    put_u32(bytes, at + 4, count);
-    put_u32(bytes, at + 8, number);
+    put(bytes, at, (24 * count).to_le_bytes());
+    put(bytes, at + 4, count.to_le_bytes());
+    put(bytes, at + 8, number.to_le_bytes());
 }

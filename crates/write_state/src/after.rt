@@ -4,7 +4,7 @@ ghost use Rattle.undo_log.specs.Settled.{state_after};
 ghost use Rattle.layout.specs.State.{headed};
 ghost use Rattle.layout.specs.Lent.{SameState, state_under};
 
-use layout::state::LentState;
+use layout::state::{LentState, mark_place};
 use rules::numbers::MAX_OPEN;
 use rules::table::Head;
 use undo_log::tokens::Settled;
@@ -27,7 +27,7 @@ pub fn write_after(state: &mut LentState<'_>, before: Head, settled: Settled)
         return;
     }
     let i = before.open as usize;
-    let to = i + i + 3;
+    let to = mark_place(i);
     serials[i + 1] = answer.token;
     numbers[to] = before.used;
     numbers[to + 1] = before.count;

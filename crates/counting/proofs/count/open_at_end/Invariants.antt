@@ -1,11 +1,12 @@
 -- What is left of the journal leaves as many open.
-use Rattle.std.specs.Prelude.{◌-◌}
-use Rattle.kit.specs.Names.{length}
+use Rattle.entry_read.specs.Left.{entries_from}
 use Rattle.counting.proofs.OpenLaws.{Counting}
 use Rattle.counting.proofs.count.open_at_end.Given as goal
 
-abbrev pub invariant-loop-at : goal.invariant-loop-at
-invariant-loop-at l = Counting l.bytes l.at l.so_far
-
-abbrev pub decreases-loop-at : goal.decreases-loop-at
-decreases-loop-at l = length l.bytes - l.at
+abbrev pub invariant-loop-entry : goal.invariant-loop-entry
+invariant-loop-entry l =
+    record {
+      can_next : goal.iterator-loop-entry.can_next l.entry-iterator;
+      is_finite : goal.iterator-loop-entry.is_finite l.entry-iterator;
+      left : Counting l.bytes (entries_from l.entry-iterator.bytes.now l.entry-iterator.at) l.so_far;
+    }

@@ -1,2 +1,2 @@
 -- What the proofs use.
-pub mod ResultLaws
+pub mod LeftLaws

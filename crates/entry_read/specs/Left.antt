@@ -1,0 +1,24 @@
+-- What is left of a valid journal from a place on, where an entry or a trailer begins or the bytes end.
+use Rattle.std.specs.Prelude.{◌≡◌, ◌<◌}
+use Rattle.kit.specs.Names.{true, List, ℕ, length}
+use Rattle.journal.specs.declared.entry.Entry.{Entry}
+use Rattle.journal.specs.Numbers.{ENTRY-BYTES}
+use Rattle.journal.specs.Entry.{Bytes, little_at}
+use Rattle.journal.specs.Journal.{orderly}
+use Rattle.journal.specs.Forward.{forward, Onward}
+
+-- Its entries.
+abbrev pub entries_from : Bytes → ℕ → List Entry
+entries_from bs at = forward (length bs) bs at (length bs)
+
+-- Up to the end nothing else stands than these and trailers, and each may stand where it does, so many snapshots being open at the place.
+pub record Left (bs : Bytes) (at : ℕ) : Type 0 where
+  pub opened : ℕ
+  pub onward : Onward bs (length bs) at (entries_from bs at)
+  pub ordered : orderly opened (entries_from bs at) ≡ true
+
+-- A later place with the same entries left, at which no trailer begins.
+pub record Past (bs : Bytes) (from at : ℕ) : Type 0 where
+  pub left : Left bs at
+  pub same : entries_from bs at ≡ entries_from bs from
+  pub stops : at < length bs → little_at 4 bs at < ENTRY-BYTES
