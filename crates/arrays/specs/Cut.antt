@@ -4,6 +4,7 @@ use Rattle.kit.specs.Names.{Bool, cond, ℕ, max, take, drop}
 use Rattle.rules.specs.Rules.{Call, State, CROWN, ENTRY, Rows, Log, Table, table, Sizes, sizes_of, step}
 use Rattle.commands.specs.declared.command.Lengths.{Lengths}
 use Rattle.arrays.specs.declared.reply.Changed.{Changed}
+use Rattle.arrays.specs.declared.reply.Holding.{Holding}
 use Rattle.arrays.specs.declared.reply.Reply.{Reply}
 use Rattle.arrays.specs.declared.reply.Reply.TheVariants as reply
 
@@ -51,6 +52,9 @@ most_entries z = touched z.log ENTRY
 abbrev pub lent_sizes : Lengths → Table → Sizes
 lent_sizes n t = sizes_of (rows_of n t.rows) (log_of n t.log)
 
+abbrev pub holding : Lengths → State → Holding
+holding n s = record { lengths = n; state = s }
+
 -- What a command leaves: the reply and the lengths, and all of the memory.
 pub record Left : Type 0 where
   pub reply : Reply
@@ -61,7 +65,7 @@ abbrev pub leaving : Reply → Lengths → Table → Left
 leaving r n t = record { reply = r; lengths = n; table = t }
 
 abbrev pub left : Changed → (State → Table) → Left
-left c t = leaving c.reply c.lengths (t c.state)
+left c t = leaving c.reply c.holding.lengths (t c.holding.state)
 
 -- A call on what is lent: the rules' step, answered and handed back.
 abbrev pub called : Lengths → Table → Call → Left

@@ -3,6 +3,7 @@ ghost use Rattle.std.specs.Prelude.{◌≡◌};
 ghost use Rattle.arrays.specs.Room.{put_lent, overwritten};
 
 // Puts numbers from place `at` of what is lent on.
+#[tactic(auto, using(crate::proofs::PutLaws::put_lent_at, crate::proofs::PutLaws::put_past))]
 pub fn put<T: Copy>(part: &mut [T], length: u32, at: usize, numbers: &[T])
     ensures { part.new ≡ put_lent length part.old at numbers.now }
 {
@@ -15,6 +16,7 @@ pub fn put<T: Copy>(part: &mut [T], length: u32, at: usize, numbers: &[T])
 }
 
 // A part set to one number from one place up to another.
+#[tactic(auto, using(crate::proofs::PutLaws::overwritten_between))]
 pub fn overwrite<T: Copy>(part: &mut [T], from: u32, to: u32, number: T)
     requires cloned { T.is_infallible number }
     requires same { (y : T) → T.is_clone number y → y ≡ number }

@@ -18,11 +18,17 @@ pub enum Reply {
     Dump,
 }
 
-// A reply, with the lengths and the state after the line.
+// What goes from line to line beside the memory: how much of each part is lent, and the state of the table in it.
 #[derive(Clone, Copy)]
-pub struct Changed {
+pub struct Holding {
     pub lengths: Lengths,
     pub state: State,
+}
+
+// A reply, with what is held after the line.
+#[derive(Clone, Copy)]
+pub struct Changed {
+    pub holding: Holding,
     pub reply: Reply,
 }
 

@@ -1,6 +1,6 @@
 // The commands, and which one a form of the table of specs/Forms.antt makes of its numbers: that table is CALLS.md's.
 ghost use Rattle.std.specs.Prelude.{◌≡◌, ◌<◌};
-ghost use Rattle.commands.specs.Forms.{makes_of, row_numbers};
+ghost use Rattle.commands.specs.Forms.{makes_of};
 
 use rules::call::Call;
 use rules::table::Mark;
@@ -31,7 +31,8 @@ pub struct Lengths {
     pub log: u32,
 }
 
-// What a line asks for. `Blank` prints nothing; `Error` is no command.
+// What a line asks for. `Blank` prints nothing. `Error` is no command, and a case: "prints `error LINE`" is an answer as others are, and
+// `changed` of damage/specs, which may not change, gives it by this case.
 #[derive(Clone, Copy)]
 pub enum Command {
     Blank,
@@ -50,18 +51,6 @@ pub enum Command {
 
 // The first commands are calls.
 const CALLS: usize = 15;
-
-// The numbers of a row in their order, for both of the commands that have a row: the function that the specs name.
-fn row_numbers(parent: u32, rank: u32, owner: u32, amount: u64) -> RowNumbers
-    ensures { result ≡ row_numbers parent rank owner amount }
-{
-    RowNumbers {
-        parent,
-        rank,
-        owner,
-        amount,
-    }
-}
 
 // The call of a form and its numbers.
 #[tactic(auto, unfolding(crate::specs::Forms::forms))]
@@ -109,8 +98,26 @@ pub fn make(form: usize, s: [u32; 7], n: [u64; 7]) -> Command
         16 => Command::Row(a),
         17 => Command::Live,
         18 => Command::Dump,
-        19 => Command::SetRow(a, row_numbers(b, c, d, n[4])),
-        20 => Command::SetEntry(a, b, c, row_numbers(d, s[4], s[5], n[6])),
+        19 => Command::SetRow(
+            a,
+            RowNumbers {
+                parent: b,
+                rank: c,
+                owner: d,
+                amount: n[4],
+            },
+        ),
+        20 => Command::SetEntry(
+            a,
+            b,
+            c,
+            RowNumbers {
+                parent: d,
+                rank: s[4],
+                owner: s[5],
+                amount: n[6],
+            },
+        ),
         21 => Command::SetState(a, b, c, n[3]),
         22 => Command::SetMark(
             a,

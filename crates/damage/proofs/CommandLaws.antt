@@ -1,20 +1,15 @@
 -- Laws of the commands: what the code leaves is what they say. Assumes nothing.
 use Rattle.std.specs.Prelude.{◌≡◌, ◌∷◌, ◌+◌, ◌*◌}
 use Rattle.kit.specs.Names.{List, [], ℕ, suc, min, length, length-take, ltb, arith, add-one}
-use Rattle.rules.specs.Rules.{State, CROWN, ENTRY, Rows, Log, Table, table, low_of, high_of, sizes}
+use Rattle.rules.specs.Rules.{State, CROWN, ENTRY, Rows, Log, table, low_of, high_of, sizes}
 use Rattle.rules.proofs.RowLaws.{number_owner}
-use Rattle.commands.specs.declared.command.Command.{Command}
 use Rattle.commands.specs.declared.command.Command.TheVariants as command
 use Rattle.commands.specs.declared.command.Lengths.{Lengths}
 use Rattle.commands.specs.declared.command.RowNumbers.{RowNumbers}
 use Rattle.arrays.specs.declared.reply.Reply.{Reply}
-use Rattle.arrays.specs.Cut.{touched, most_rows, Left, leaving, done_where}
+use Rattle.arrays.specs.Cut.{touched, most_rows, leaving, done_where}
 use Rattle.arrays.specs.Room.{put_lent}
 use Rattle.damage.specs.Commands.{changed}
-
--- what a command leaves, where it is told which one it is
-pub told : {x : Left} {c d : Command} (n : Lengths) (t : Table) → c ≡ d → x ≡ changed n t d → x ≡ changed n t c
-told n t e p = rw e p
 
 -- ---- rows and entries
 

@@ -9,7 +9,7 @@ use Rattle.commands.specs.declared.command.RowNumbers.{RowNumbers}
 use Rattle.damage.specs.declared.damage.Lending.{Lending}
 use Rattle.arrays.specs.declared.reply.Reply.{Reply}
 use Rattle.arrays.specs.declared.reply.Reply.TheVariants as reply
-use Rattle.arrays.specs.Cut.{rows_of, log_of, rows_back, log_back, most_rows, most_entries, lent_sizes, Left, leaving, called, done_where}
+use Rattle.arrays.specs.Cut.{rows_of, log_of, rows_back, log_back, most_rows, most_entries, lent_sizes, holding, Left, leaving, called, done_where}
 use Rattle.arrays.specs.Room.{nothing, evenly, room_for, zeroed}
 
 -- ---- what is lent
@@ -29,12 +29,12 @@ abbrev pub or_error : Bool → Lengths → Table → Left → Left
 or_error fine n t rest = cond fine rest (leaving reply.Error n t)
 
 abbrev pub lent_left : Lengths → Table → Option Lending → Left
-lent_left n t (Some z) = leaving z.reply z.new (lent_anew z.old z.new t.rows t.log z.state)
+lent_left n t (Some z) = leaving z.reply z.new.lengths (lent_anew z.old z.new.lengths t.rows t.log z.new.state)
 lent_left n t None = leaving reply.Error n t
 
 -- other lengths, where there is room for them
 abbrev pub lending : Lengths → Lengths → State → Reply → Option Lending
-lending old new s r = cond (room_for new) (Some (record { old = old; new = new; state = s; reply = r })) None
+lending old new s r = cond (room_for new) (Some (record { old = old; new = holding new s; reply = r })) None
 
 -- ---- damage: a number past the end of what is lent is written nowhere
 

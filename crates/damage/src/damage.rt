@@ -9,7 +9,7 @@ use arrays::lengths::{
     MOST_ENTRIES, MOST_ROWS, at_most, most_entries, most_rows, nothing, room_for,
 };
 use arrays::put::put;
-use arrays::reply::{Changed, Reply, done};
+use arrays::reply::{Changed, Holding, Reply, done};
 use commands::command::{Lengths, RowNumbers};
 use parts::amounts::{high_of, low_of};
 use rules::numbers::{CROWN, ENTRY};
@@ -20,8 +20,7 @@ use rules::table::{Lent, Mark, State};
 #[derive(Clone, Copy)]
 pub struct Lending {
     pub old: Lengths,
-    pub new: Lengths,
-    pub state: State,
+    pub new: Holding,
     pub reply: Reply,
 }
 
@@ -33,44 +32,41 @@ pub fn fresh_table(rows: u32, entries: u32) -> Option<Lending>
     if rows > MOST_ROWS || entries > MOST_ENTRIES {
         return None;
     }
-    let new = Lengths {
+    let lengths = Lengths {
         parents: rows,
         crowns: rows * 2,
         amounts: rows,
         log: entries * 7,
     };
+    let state = fresh();
     Some(Lending {
         old: nothing(),
-        new,
-        state: fresh(),
+        new: Holding { lengths, state },
         reply: Reply::Table,
     })
 }
 
 // Those that `lend` names, where there is room.
 #[tactic(auto, unfolding(crate::specs::Commands::changed))]
-pub fn other_lengths(lengths: Lengths, state: State, new: Lengths) -> Option<Lending>
-    ensures { (rs : Rows) (l : Log) → lent_left lengths (table rs l state) result ≡ changed lengths (table rs l state) (command.Lend new) }
+pub fn other_lengths(holding: Holding, new: Lengths) -> Option<Lending>
+    ensures { (rs : Rows) (l : Log) → let t = table rs l holding.state in lent_left holding.lengths t result ≡ changed holding.lengths t (command.Lend new) }
 {
     room_for(new).then_some(Lending {
-        old: lengths,
-        new,
-        state,
+        old: holding.lengths,
+        new: Holding {
+            lengths: new,
+            ..holding
+        },
         reply: Reply::Ok,
     })
 }
 
 // Puts a row's numbers where they are lent; an error where no part has a place for one.
-pub fn set_row(
-    lengths: Lengths,
-    state: State,
-    lent: &mut Lent<'_>,
-    key: u32,
-    row: RowNumbers,
-) -> Changed
+pub fn set_row(holding: Holding, lent: &mut Lent<'_>, key: u32, row: RowNumbers) -> Changed
     ensures same_parts { SameParts lent.old lent.new }
-    ensures value { left result (table_in lent.new) ≡ changed lengths (table_in lent.old state) (command.SetRow key row) }
+    ensures value { left result (table_in lent.new) ≡ changed holding.lengths (table_in lent.old holding.state) (command.SetRow key row) }
 {
+    let lengths = holding.lengths;
     let parents = at_most(lengths.parents, lent.parents.len());
     let crowns = at_most(lengths.crowns, lent.crowns.len());
     let amounts = at_most(lengths.amounts, lent.amounts.len());
@@ -82,60 +78,55 @@ pub fn set_row(
     put(lent.parents, lengths.parents, at, &parent);
     put(lent.crowns, lengths.crowns, at * CROWN, &crown);
     put(lent.amounts, lengths.amounts, at, &amount);
-    Changed {
-        lengths,
-        state,
-        reply,
-    }
+    Changed { holding, reply }
 }
 
 // Puts an entry's numbers where they are lent; an error where the log has a place for none.
+#[tactic(auto, using(crate::proofs::CommandLaws::entry_set))]
 pub fn set_entry(
-    lengths: Lengths,
-    state: State,
+    holding: Holding,
     log: &mut [u32],
     i: u32,
     kind: u32,
     key: u32,
     row: RowNumbers,
 ) -> Changed
-    ensures { (rs : Rows) → left result (table rs log.new) ≡ changed lengths (table rs log.old state) (command.SetEntry i kind key row) }
+    ensures { (rs : Rows) → left result (table rs log.new) ≡ changed holding.lengths (table rs log.old holding.state) (command.SetEntry i kind key row) }
 {
-    let reply = done(i < most_entries(at_most(lengths.log, log.len())));
+    let length = holding.lengths.log;
+    let reply = done(i < most_entries(at_most(length, log.len())));
     let low = low_of(row.amount);
     let high = high_of(row.amount);
     let numbers = [kind, key, row.parent, row.rank, row.owner, low, high];
-    put(log, lengths.log, i as usize * ENTRY, &numbers);
-    Changed {
-        lengths,
-        state,
-        reply,
-    }
+    put(log, length, i as usize * ENTRY, &numbers);
+    Changed { holding, reply }
 }
 
 // The state with one mark changed.
 #[tactic(auto, unfolding(crate::specs::Commands::changed))]
-pub fn set_mark(lengths: Lengths, state: State, i: u32, mark: Mark) -> Changed
-    ensures { (rs : Rows) (l : Log) → left result (table rs l) ≡ changed lengths (table rs l state) (command.SetMark i mark) }
+pub fn set_mark(holding: Holding, i: u32, mark: Mark) -> Changed
+    ensures { (rs : Rows) (l : Log) → left result (table rs l) ≡ changed holding.lengths (table rs l holding.state) (command.SetMark i mark) }
 {
-    let mut marks = state.marks;
+    let mut marks = holding.state.marks;
     let at = i as usize;
     if at >= marks.len() {
         return Changed {
-            lengths,
-            state,
+            holding,
             reply: Reply::Error,
         };
     }
     marks[at] = mark;
+    let state = State {
+        marks,
+        ..holding.state
+    };
     Changed {
-        lengths,
-        state: State { marks, ..state },
+        holding: Holding { state, ..holding },
         reply: Reply::Ok,
     }
 }
 
-// The state of a fresh table. Not derived: an array of 32 marks has no `Default`.
+// The state of a fresh table. Not derived: the check leaves open that `State::default()` is this one.
 pub fn fresh() -> State
     ensures { result ≡ fresh }
 {
@@ -155,25 +146,18 @@ pub fn fresh() -> State
 
 // The state with its numbers changed, and its marks as they were.
 #[tactic(auto, unfolding(crate::specs::Commands::changed))]
-pub fn set_state(
-    lengths: Lengths,
-    state: State,
-    count: u32,
-    used: u32,
-    open: u32,
-    last: u64,
-) -> Changed
-    ensures { (rs : Rows) (l : Log) → left result (table rs l) ≡ changed lengths (table rs l state) (command.SetState count used «open» last) }
+pub fn set_state(holding: Holding, count: u32, used: u32, open: u32, last: u64) -> Changed
+    ensures { (rs : Rows) (l : Log) → left result (table rs l) ≡ changed holding.lengths (table rs l holding.state) (command.SetState count used «open» last) }
 {
+    let state = State {
+        count,
+        used,
+        open,
+        last,
+        ..holding.state
+    };
     Changed {
-        lengths,
-        state: State {
-            count,
-            used,
-            open,
-            last,
-            ..state
-        },
+        holding: Holding { state, ..holding },
         reply: Reply::Ok,
     }
 }

@@ -1,7 +1,7 @@
 -- Laws of what is printed. Assumes nothing.
 use Rattle.std.specs.Prelude.{◌≡◌, ◌∷◌, ◌++◌, ◌+◌, ◌*◌, ◌-◌, ◌/◌, ◌%◌, ◌^◌, ◌≤◌, ◌<◌}
-use Rattle.kit.specs.Names.{refl, ap, sym, ◌∙◌, List, [], append_assoc, append-nil, ℕ, zero, suc, length, get_or, set, take, drop}
-use Rattle.kit.specs.Names.{length-append, paste, paste-zero, set_split, append_snoc, take-length, take-paste, take-suc, drop-paste, length-paste, drop-drop, arith, dec_le, add-one}
+use Rattle.kit.specs.Names.{refl, ap, sym, ◌∙◌, List, [], append_assoc, append-nil, ℕ, zero, suc, length, get_or, take, drop}
+use Rattle.kit.specs.Names.{length-append, paste, paste-zero, take-length, take-paste, take-suc, drop-paste, length-paste, drop-drop, arith, dec_le, add-one}
 use Rattle.kit.specs.Names.{pow-le-pow_right, pow-suc, mod-lt, mod-eq_of_lt, le-div_iff_mul-le, div-lt_iff_lt-mul, lt-ltb, le-ltb}
 use Rattle.io.specs.Digits.{last_digits, IsDigitCount, hex_digit_ascii}
 use Rattle.digits.specs.Printed.{Printed, spell, spell_in, listed}
@@ -77,14 +77,6 @@ unfolding spell
 spelt n count small f = digits_spell count 20 n f (at_most_20 n count small f)
 
 -- ---- one byte
-
-pub one_byte : (before : List ℕ) (at byte : ℕ) → at < length before → Printed before (set before at byte) at (byte ∷ []) (at + 1)
-one_byte before at byte h =
-    record {
-      place = refl;
-      room = omega arith;
-      stands = rw add-one (set_split before at byte h ∙ sym (append_snoc (take at before) byte (drop (suc at) before)));
-    }
 
 -- ---- numbers in a row
 

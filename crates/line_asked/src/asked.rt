@@ -4,7 +4,7 @@ use commands::command::Command;
 use lines::gather::Kept;
 use lines::line::command_of;
 use rules::call::Call;
-use words::words::{skip_blanks, word_end};
+use words::words::Words;
 
 // A call, a segment, or no more than a reply.
 #[derive(Clone, Copy)]
@@ -16,15 +16,8 @@ pub enum Asked {
 
 // Whether a line has the one word `flush`.
 fn is_flush(line: &[u8]) -> bool {
-    let start = skip_blanks(line, 0);
-    if start >= line.len() {
-        return false;
-    }
-    let end = word_end(line, start);
-    if skip_blanks(line, end) < line.len() {
-        return false;
-    }
-    &line[start..end] == b"flush".as_slice()
+    let mut words = Words(line);
+    words.next() == Some(b"flush".as_slice()) && words.next().is_none()
 }
 
 // What a command asks for, of those that a recorded list may have.
@@ -40,7 +33,7 @@ fn of_command(command: Command) -> Asked {
 
 // What the bytes of a buffer that are kept ask for.
 pub fn line_asked(line: &[u8], kept: Kept) -> Asked {
-    if !kept.overlong && kept.n <= line.len() && is_flush(&line[..kept.n]) {
+    if !kept.overlong && line.get(..kept.n).is_some_and(is_flush) {
         return Asked::Flush;
     }
     of_command(command_of(line, kept))

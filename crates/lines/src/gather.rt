@@ -31,19 +31,19 @@ fn gather_byte(line: &mut [u8], kept: Kept, byte: u8) -> Kept
 }
 
 // The buffer is the caller's, with how much of it is used in `Kept`: the memory is fixed, and a line never makes it grow.
-// Takes bytes from place `from` up to `count`, or up to a line feed, which it reads over.
+// Takes bytes from place `from` up to `count`, or up to a line feed, which it reads over. Nothing is asked of either (docs/CONTRACTS.md),
+// so that a slice in their place would be cut, and tested, at the caller.
 pub fn gather(line: &mut [u8], kept: Kept, input: &[u8], from: usize, count: usize) -> Gathered
     ensures { reached (line_of line.new result.kept.n result.kept.overlong) result.next result.ended
         ≡ gathering from (line_of line.old kept.n kept.overlong) (drop from (take count input.now)) }
 {
+    let end = count.min(input.len());
     let mut kept = kept;
-    let end = from.max(count.min(input.len()));
-    for i in from..end {
-        let byte = input[i];
+    for (i, &byte) in input[from.min(end)..end].iter().enumerate() {
         if byte == b'\n' {
             return Gathered {
                 kept,
-                next: i + 1,
+                next: from + i + 1,
                 ended: true,
             };
         }
@@ -51,7 +51,7 @@ pub fn gather(line: &mut [u8], kept: Kept, input: &[u8], from: usize, count: usi
     }
     Gathered {
         kept,
-        next: end,
+        next: from.max(end),
         ended: false,
     }
 }

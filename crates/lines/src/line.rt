@@ -22,8 +22,8 @@ pub fn command_of(line: &[u8], kept: Kept) -> Command
     if kept.overlong {
         return cut_off(line);
     }
-    if kept.n > line.len() {
+    let Some(whole) = line.get(..kept.n) else {
         return Command::Error;
-    }
-    parse(&line[..kept.n])
+    };
+    parse(whole)
 }

@@ -3,19 +3,17 @@ ghost use Rattle.rules.specs.Rules.{table_in, table_lent, outcome_of, step, Same
 ghost use Rattle.arrays.specs.Cut.{left, called};
 
 use arrays::lengths::at_most;
-use arrays::reply::{Changed, Reply};
-use commands::command::Lengths;
+use arrays::reply::{Changed, Holding, Reply};
 use rules::call::{Answered, Call};
 use rules::table::{Lent, State};
 
 // A call of the table on what is lent of the four parts.
-pub fn call_lent(lengths: Lengths, state: State, lent: &mut Lent<'_>, call: Call) -> Changed
+pub fn call_lent(holding: Holding, lent: &mut Lent<'_>, call: Call) -> Changed
     ensures same_parts { SameParts lent.old lent.new }
-    ensures value { left result (table_in lent.new) ≡ called lengths (table_in lent.old state) call }
+    ensures value { left result (table_in lent.new) ≡ called holding.lengths (table_in lent.old holding.state) call }
 {
     call_cut(
-        lengths,
-        state,
+        holding,
         lent.parents,
         lent.crowns,
         lent.amounts,
@@ -24,10 +22,9 @@ pub fn call_lent(lengths: Lengths, state: State, lent: &mut Lent<'_>, call: Call
     )
 }
 
-// The same of the parts one by one, since a struct of them can't be made of parts that are cut off another one's.
+// The same of the parts one by one: the checker covers no `Lent` made of parts that are cut off those behind a `&mut Lent`.
 fn call_cut(
-    lengths: Lengths,
-    state: State,
+    holding: Holding,
     parents: &mut [u32],
     crowns: &mut [u32],
     amounts: &mut [u64],
@@ -36,14 +33,15 @@ fn call_cut(
 ) -> Changed
     ensures { let t = table_lent parents.old crowns.old amounts.old log.old in
         let after = table_lent parents.new crowns.new amounts.new log.new in
-        left result after ≡ called lengths (t state) call }
+        left result after ≡ called holding.lengths (t holding.state) call }
 {
+    let lengths = holding.lengths;
     let a = at_most(lengths.parents, parents.len()) as usize;
     let b = at_most(lengths.crowns, crowns.len()) as usize;
     let c = at_most(lengths.amounts, amounts.len()) as usize;
     let d = at_most(lengths.log, log.len()) as usize;
     let answered = call_fronts(
-        state,
+        holding.state,
         &mut parents[..a],
         &mut crowns[..b],
         &mut amounts[..c],
@@ -51,8 +49,10 @@ fn call_cut(
         call,
     );
     Changed {
-        lengths,
-        state: answered.state,
+        holding: Holding {
+            state: answered.state,
+            ..holding
+        },
         reply: Reply::Answer(call, answered.answer),
     }
 }

@@ -4,18 +4,19 @@ ghost use Rattle.arrays.specs.Cut.{left};
 ghost use Rattle.damage.specs.Commands.{changed};
 
 use crate::call::call_lent;
-use arrays::reply::Changed;
-use commands::command::{Command, Lengths};
+use arrays::reply::{Changed, Holding};
+use commands::command::Command;
 use others::other::other;
-use rules::table::{Lent, State};
+use rules::table::Lent;
 
 // Carries a command out, but for what it prints.
-pub fn change(lengths: Lengths, state: State, lent: &mut Lent<'_>, command: Command) -> Changed
+#[tactic(auto, unfolding(damage::specs::Commands::changed))]
+pub fn change(holding: Holding, lent: &mut Lent<'_>, command: Command) -> Changed
     ensures same_parts { SameParts lent.old lent.new }
-    ensures value { left result (table_in lent.new) ≡ changed lengths (table_in lent.old state) command }
+    ensures value { left result (table_in lent.new) ≡ changed holding.lengths (table_in lent.old holding.state) command }
 {
     match command {
-        Command::Call(call) => call_lent(lengths, state, lent, call),
-        _ => other(lengths, state, lent, command),
+        Command::Call(call) => call_lent(holding, lent, call),
+        _ => other(holding, lent, command),
     }
 }

@@ -1,13 +1,10 @@
 // Reads a list of calls from standard input and prints their answers. What one turn does is said in `turn`.
 #![tactic(auto)]
 
-ghost use Rattle.std.specs.Prelude.{◌≤◌, length};
-
 use crate::turn::turn;
-use digits::put::Page;
 use reading::read::begin;
 use rules::table::Lent;
-use show::buffer::flush;
+use show::buffer::{Output, flush};
 use std::alloc::AllocError;
 use std::io::Read;
 
@@ -19,10 +16,8 @@ fn work<R: Read>(
     lent: &mut Lent<'_>,
     input: &mut [u8],
     line: &mut [u8],
-    out: &mut [u8],
-)
-    requires { 256 ≤ length out.old }
-{
+    out: &mut Output<'_>,
+) {
     let mut reading = begin();
     for _ in 0..u64::MAX {
         if !reading.more {
@@ -30,10 +25,7 @@ fn work<R: Read>(
         }
         reading = turn(reading, source, lent, input, line, out);
     }
-    flush(&mut Page {
-        bytes: out,
-        at: reading.at,
-    });
+    flush(out);
 }
 
 // The memory that is lent.
@@ -44,7 +36,8 @@ fn main(rt: HostRuntime) -> Result<(), AllocError> {
     let mut log = vec![in rt.alloc(); 0u32; 917504]?;
     let mut input = [0u8; 65536];
     let mut line = [0u8; 65536];
-    let mut out = [0u8; 65536];
+    let mut bytes = [0u8; 65536];
+    let mut out = Output::new(&mut bytes);
     let mut lent = Lent {
         parents: &mut parents,
         crowns: &mut crowns,

@@ -2,9 +2,10 @@
 -- the form has places, and each of these stands for the decimal value of its digits, within the width of its place. Assumes nothing.
 use Rattle.std.specs.Prelude.{◌≡◌, ◌∷◌, ◌≤◌, ◌<◌}
 use Rattle.kit.specs.Names.{refl, ap, sym, ◌∙◌, Bool, true, false, cond, List, [], ℕ, length, length-map, get_or, get_or-eq_default, get_or-map, eqb, arith, dec_lt}
-use Rattle.parser.proofs.CommandLaws.{either}
+use Rattle.std.proofs.lemmas.Bool.{and_parts}
+use Rattle.rules.proofs.TestLaws.{either_way}
 use Rattle.words.proofs.LineLaws.{placed}
-use Rattle.words.proofs.NumeralLaws.{both, in_limit}
+use Rattle.words.proofs.NumeralLaws.{in_limit}
 use Rattle.parser.specs.Command.{command_of, fit, command_with, of_words}
 use Rattle.commands.specs.Forms.{Form, form_at, forms, limit, names}
 use Rattle.commands.specs.declared.command.Width.{Width}
@@ -34,7 +35,7 @@ pub record Accepted (line : List ℕ) : Type 0 where
 all_within : (xs : List (List ℕ)) (ws : List Width) → fit ws xs ≡ true → Within xs ws
 unfolding fit
 all_within [] [] e = tt
-all_within (x ∷ xs) (w ∷ ws) e = let h = both (is_numeral (limit w) x) (fit ws xs) e in (in_limit (limit w) x h.0, all_within xs ws h.1)
+all_within (x ∷ xs) (w ∷ ws) e = let h = and_parts (is_numeral (limit w) x) (fit ws xs) e in (in_limit (limit w) x h.0, all_within xs ws h.1)
 all_within [] (w ∷ ws) e = let z : ◌≡◌ {A = ℕ} 0 1 = cc in omega arith
 all_within (x ∷ xs) [] e = let z : ◌≡◌ {A = ℕ} 0 1 = cc in omega arith
 
@@ -55,7 +56,7 @@ module _ (line : List ℕ) (other : command_of line ≡ Error → ⊥) where
         | yes h ↦
             let same : name ≡ (form_at i).name = sym (found (rw (length-map forms (λ (f : Form). f.name)) h)) ∙ get_or-map (λ (f : Form). f.name) forms i (form_at 24) in
             by_form xs i (fit (form_at i).widths xs) refl h (split ∙ ap (λ w. w ∷ xs) same) is
-        | no h ↦ absurd (other (is ∙ ap (λ f. command_with f xs) (get_or-eq_default forms (form_at 24) {n = i} (omega arith)) ∙ either (fit [] xs) Error))
+        | no h ↦ absurd (other (is ∙ ap (λ f. command_with f xs) (get_or-eq_default forms (form_at 24) {n = i} (omega arith)) ∙ either_way (fit [] xs) Error))
       ]
 
 -- no command but a form's, with its numbers within their widths

@@ -1,10 +1,11 @@
 -- Laws of a line as a command: its numbers one by one, and the line from its first byte on. Assumes nothing.
 use Rattle.std.specs.Prelude.{◌≡◌, ◌∷◌, ◌++◌, ◌+◌, ◌%◌, ◌≤◌, ◌<◌, None, Some}
-use Rattle.kit.specs.Names.{Bor, refl, ap, sym, ◌∙◌, fun_ext, Bool, true, false, cond, List, [], append-nil, map, ℕ, zero, suc, length, get_or, set, take}
+use Rattle.kit.specs.Names.{Bor, refl, ap, sym, ◌∙◌, fun_ext, cond, List, [], append-nil, map, ℕ, zero, suc, length, get_or, set, take}
 use Rattle.kit.specs.Names.{drop, replicate, drop_of_length-le, take-append-drop, get_or-map, eqb, drop-cons, drop-drop, get_or-drop, get_or-set_other, get_or-set_same, get_or-take, arith}
 use Rattle.kit.specs.Names.{ℕ_discrete, add-one, mod-eq_of_lt, eq-eqb, ne_eqb}
+use Rattle.std.proofs.lemmas.List.{get_or_default}
 use Rattle.rules.specs.Rules.{WORD}
-use Rattle.words.proofs.LineLaws.{no_words}
+use Rattle.rules.proofs.TestLaws.{either_way}
 use Rattle.words.proofs.NumeralLaws.{in_limit, says}
 use Rattle.parser.specs.Command.{command_of, fit, command_with, of_words}
 use Rattle.commands.specs.Forms.{Form, form_at, forms, is_long, limit, makes_of, number_at, names}
@@ -21,16 +22,10 @@ alike a zero i = refl
 alike a (suc n) zero = refl
 alike a (suc n) (suc i) = alike a n i
 
-one_past : {A : Type 0} (x : A) (l : List A) (i : ℕ) (d : A) → i ≤ length l → get_or (l ++ (x ∷ [])) i d ≡ get_or l i x
-one_past x [] zero d h = refl
-one_past x [] (suc i) d h = absurd (omega arith)
-one_past x (y ∷ l) zero d h = refl
-one_past x (y ∷ l) (suc i) d h = one_past x l i d (omega arith)
-
--- the code's table is that of the forms, with a place past its end
-pub widths_at : (i : ℕ) (d : List Width) → i ≤ 24 → get_or (map (λ (f : Form). f.widths) forms ++ ([] ∷ [])) i d ≡ (form_at i).widths
+-- the code's table is that of the forms
+pub widths_at : (i : ℕ) (d : List Width) → i < 24 → get_or (map (λ (f : Form). f.widths) forms) i d ≡ (form_at i).widths
 unfolding forms
-widths_at i d h = one_past [] (map (λ (f : Form). f.widths) forms) i d h ∙ get_or-map (λ (f : Form). f.widths) forms i (form_at 24)
+widths_at i d h = get_or_default (map (λ (f : Form). f.widths) forms) i d [] h ∙ get_or-map (λ (f : Form). f.widths) forms i (form_at 24)
 
 -- a table of slices, read at a place
 pub now_at : (l : List (Bor (List Width))) (i : ℕ) (d : Bor (List Width)) → (get_or l i d).now ≡ get_or (map (λ (b : Bor (List Width)). b.now) l) i d.now
@@ -44,17 +39,13 @@ pub record Reading (ws : List Width) (xs rest : List (List ℕ)) (count : ℕ) (
   pub fits : fit ws xs ≡ fit (drop count ws) rest
   pub each : (i : ℕ) → number_at ws s n i ≡ decimal 0 (get_or (take count xs) i [])
 
-pub either : {A : Type 0} (b : Bool) (x : A) → cond b x x ≡ x
-either true x = refl
-either false x = refl
-
 pub none_read : (ws : List Width) (xs rest : List (List ℕ)) → xs ≡ rest → Reading ws xs rest 0 (replicate 7 0) (replicate 7 0)
 unfolding decimal
 none_read ws xs rest h =
     record {
       onward = sym h;
       fits = ap (fit ws) h;
-      each = λ i. rw (alike {A = ℕ} 0 7 i) (either (is_long (get_or ws i Short)) 0);
+      each = λ i. rw (alike {A = ℕ} 0 7 i) (either_way (is_long (get_or ws i Short)) 0);
     }
 
 -- a number that its width holds is not cut
@@ -133,6 +124,11 @@ module _ (i : ℕ) {xs rest : List (List ℕ)} {count : ℕ} {s n : List ℕ} (r
 
 -- ---- a line
 
+-- what is no name has no form
+pub no_name : (name : List ℕ) (xs : List (List ℕ)) → 24 ≡ place_in names name → Error ≡ of_words (name ∷ xs)
+unfolding forms
+no_name name xs e = rw (← e) (sym (either_way (fit [] xs) Error))
+
 pub empty_line : (line : List ℕ) → length line ≡ 0 → Blank ≡ command_of line
 unfolding command_of
 empty_line [] e = refl
@@ -146,14 +142,5 @@ some_line (b ∷ bs) h = refl
 pub comment : (line : List ℕ) → 0 < length line → get_or line 0 0 ≡ 35 → Blank ≡ command_of line
 comment line h e = rw (some_line line h, eq-eqb (get_or line 0 0) 35 e)
 
-module _ (line : List ℕ) (start : ℕ) (some_byte : 0 < length line) (no_comment : get_or line 0 0 ≡ 35 → ⊥)
-    (skip : words (drop 0 line) ≡ words (drop start line)) where
-  by_words : command_of line ≡ of_words (words (drop start line))
-  by_words = rw (some_line line some_byte, ne_eqb (get_or line 0 0) 35 no_comment, skip)
-
-  pub only_blanks : start ≡ length line → Error ≡ command_of line
-  only_blanks e = rw (by_words, no_words line start (omega arith))
-
-  pub named_by : (name : List ℕ) (xs : List (List ℕ)) (form : ℕ) → words (drop start line) ≡ name ∷ xs → form ≡ place_in names name
-      → command_with (form_at form) xs ≡ command_of line
-  named_by name xs form split e = rw (by_words, split, e)
+pub by_words : (line : List ℕ) → 0 < length line → (get_or line 0 0 ≡ 35 → ⊥) → of_words (words line) ≡ command_of line
+by_words line h no_comment = rw (some_line line h, ne_eqb (get_or line 0 0) 35 no_comment)

@@ -70,10 +70,10 @@ pub fn put_kind(page: &mut Page<'_>, kind: Option<u64>, key: Option<u64>)
 // A mark, after a bar.
 #[tactic(auto, using(digits::proofs::PrintLaws::then))]
 pub fn put_mark(page: &mut Page<'_>, mark: Mark)
-    requires { page.old.at + 256 ≤ length page.old.bytes.now }
+    requires { page.old.at + ROOM ≤ length page.old.bytes.now }
     ensures same_page { SamePage page.old page.new }
     ensures printed { Prints page.old page.new (mark_text mark) }
-    ensures moves { Moves page.old page.new 256 }
+    ensures moves { Moves page.old page.new ROOM }
 {
     let numbers = [mark.serial, mark.log_len as u64, mark.keys as u64];
     put_bar(page);
@@ -82,10 +82,10 @@ pub fn put_mark(page: &mut Page<'_>, mark: Mark)
 
 // The numbers of a state, and the word before the marks.
 pub fn put_state(page: &mut Page<'_>, state: State)
-    requires { page.old.at + 256 ≤ length page.old.bytes.now }
+    requires { page.old.at + ROOM ≤ length page.old.bytes.now }
     ensures same_page { SamePage page.old page.new }
     ensures printed { Prints page.old page.new (state_text state) }
-    ensures moves { Moves page.old page.new 256 }
+    ensures moves { Moves page.old page.new ROOM }
 {
     let numbers = [
         state.count as u64,

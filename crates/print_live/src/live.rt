@@ -1,16 +1,12 @@
-use arrays::reply::Reply;
-use commands::command::Lengths;
-use digits::put::Page;
-use rules::table::{Seen, State};
+use arrays::reply::{Holding, Reply};
+use rules::table::Seen;
 use say::say::say;
-use show::buffer::flush;
+use show::buffer::{Output, flush};
 
 // Prints the line over what is lent.
-pub fn print_table(lengths: Lengths, state: State, seen: Seen<'_>) {
-    let mut page = Page {
-        bytes: &mut [0; 65536],
-        at: 0,
-    };
-    say(&mut page, lengths, state, seen, Reply::Live, 0);
-    flush(&mut page);
+pub fn print_table(holding: Holding, seen: Seen<'_>) {
+    let mut bytes = [0; 65536];
+    let mut out = Output::new(&mut bytes);
+    say(&mut out, holding, seen, Reply::Live, 0);
+    flush(&mut out);
 }

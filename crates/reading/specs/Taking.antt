@@ -1,8 +1,9 @@
 -- A line gathered from the input, part by part.
 use Rattle.std.specs.Prelude.{◌+◌}
 use Rattle.kit.specs.Names.{Bool, true, false, cond, List, ℕ, take, drop, eqb, ltb}
-use Rattle.rules.specs.Rules.{State, fresh, MAX-U64}
-use Rattle.commands.specs.declared.command.Lengths.{Lengths}
+use Rattle.rules.specs.Rules.{fresh, MAX-U64}
+use Rattle.arrays.specs.declared.reply.Holding.{Holding}
+use Rattle.arrays.specs.Cut.{holding}
 use Rattle.arrays.specs.Room.{nothing}
 use Rattle.reading.specs.declared.read.Reading.{Reading}
 use Rattle.lines.specs.declared.gather.Kept.{Kept}
@@ -15,10 +16,8 @@ none_kept = record { n = 0; overlong = false }
 abbrev pub beginning : Reading
 beginning =
     record {
-      lengths = nothing;
-      state = fresh;
+      holding = holding nothing fresh;
       line = 0;
-      at = 0;
       kept = none_kept;
       from = 0;
       count = 0;
@@ -32,10 +31,8 @@ beginning =
 abbrev pub reading : Reading → ℕ → Reading
 reading s count =
     record {
-      lengths = s.lengths;
-      state = s.state;
+      holding = s.holding;
       line = s.line;
-      at = s.at;
       kept = s.kept;
       from = 0;
       count = count;
@@ -58,10 +55,8 @@ line_number number ended = cond ended (cond (eqb number MAX-U64) number (number 
 abbrev pub reaching : Reading → Reached → Bool → ℕ → Reading
 reaching s g ended number =
     record {
-      lengths = s.lengths;
-      state = s.state;
+      holding = s.holding;
       line = number;
-      at = s.at;
       kept = record { n = g.line.n; overlong = g.line.overlong };
       from = g.next;
       count = s.count;
@@ -84,13 +79,11 @@ taking s b input =
     took (reaching s g ended (line_number s.line ended)) g.line.buffer
 
 -- Ready for the next line, with what the command left.
-abbrev pub next_line : Reading → Lengths → State → ℕ → Reading
-next_line s n st at =
+abbrev pub next_line : Reading → Holding → Reading
+next_line s h =
     record {
-      lengths = n;
-      state = st;
+      holding = h;
       line = s.line;
-      at = at;
       kept = none_kept;
       from = s.from;
       count = s.count;

@@ -1,23 +1,20 @@
-ghost use Rattle.std.specs.Prelude.{◌≡◌, List, ℕ, ◌<◌};
+ghost use Rattle.std.specs.Prelude.{◌≡◌, ◌≤◌, List, ℕ, ◌<◌, IfOk, OnErr};
 ghost use Rattle.lines.specs.Lines.{line, reached};
 ghost use Rattle.reading.specs.Taking.{beginning, filled, took, taking, line_number, ends_at, next_line};
 
 use arrays::lengths::nothing;
-use arrays::reply::Changed;
-use commands::command::Lengths;
+use arrays::reply::Holding;
 use damage::damage::fresh;
 use lines::gather::{Gathered, Kept, gather};
-use rules::table::State;
+use std::io;
 use std::io::Read;
 
 // A list of calls that is being read: what goes from line to line, the line so far, and the part of the input that is at hand.
 // `more` and `ended` are flags, since the other fields are read in both cases.
 #[derive(Clone, Copy)]
 pub struct Reading {
-    pub lengths: Lengths,
-    pub state: State,
+    pub holding: Holding,
     pub line: u64,
-    pub at: usize,
     pub kept: Kept,
     pub from: usize,
     pub count: usize,
@@ -30,10 +27,11 @@ pub fn begin() -> Reading
     ensures { result ≡ beginning }
 {
     Reading {
-        lengths: nothing(),
-        state: fresh(),
+        holding: Holding {
+            lengths: nothing(),
+            state: fresh(),
+        },
         line: 0,
-        at: 0,
         kept: Kept::default(),
         from: 0,
         count: 0,
@@ -42,21 +40,35 @@ pub fn begin() -> Reading
     }
 }
 
-// More input, where none is at hand and there is any. One that can't be read has ended.
-pub fn refill<R: Read>(reading: Reading, source: &mut R, input: &mut [u8]) -> Reading
-    ensures value { result ≡ filled reading result.count }
+// More input, where none is at hand and there is any.
+pub fn read_more<R: Read>(reading: Reading, source: &mut R, input: &mut [u8]) -> io::Result<Reading>
+    ensures ok { IfOk result (λ more. more ≡ filled reading more.count) }
+    ensures err { OnErr result (reading.count ≤ reading.from) }
     ensures input_unchanged { reading.from < reading.count → input.new ≡ input.old }
 {
     if reading.from < reading.count {
-        return reading;
+        return Ok(reading);
     }
-    let count = source.read(input).unwrap_or(0);
-    Reading {
+    let count = source.read(input)?;
+    Ok(Reading {
         from: 0,
         count,
         more: count > 0,
         ..reading
-    }
+    })
+}
+
+// The same, but input that can't be read has ended.
+pub fn refill<R: Read>(reading: Reading, source: &mut R, input: &mut [u8]) -> Reading
+    ensures value { result ≡ filled reading result.count }
+    ensures input_unchanged { reading.from < reading.count → input.new ≡ input.old }
+{
+    read_more(reading, source, input).unwrap_or(Reading {
+        from: 0,
+        count: 0,
+        more: false,
+        ..reading
+    })
 }
 
 // Both buffers are the caller's, of a fixed size: neither input nor a line makes them grow.
@@ -89,13 +101,11 @@ fn line_number(line: u64, ended: bool) -> u64
 }
 
 // Ready for the next line.
-pub fn next_line(reading: Reading, changed: Changed, at: usize) -> Reading
-    ensures { result ≡ next_line reading changed.lengths changed.state at }
+pub fn next_line(reading: Reading, holding: Holding) -> Reading
+    ensures { result ≡ next_line reading holding }
 {
     Reading {
-        lengths: changed.lengths,
-        state: changed.state,
-        at,
+        holding,
         kept: Kept::default(),
         ended: false,
         ..reading

@@ -1,2 +1,1 @@
-pub mod SayLaws
 pub mod Examples

@@ -1,50 +1,64 @@
 ghost use Rattle.std.specs.Prelude.{◌≡◌, [], ◌∷◌, ◌+◌, ◌≤◌, length};
 ghost use Rattle.digits.specs.Page.{SamePage};
-ghost use Rattle.show.specs.Pieces.{placed, Says};
+ghost use Rattle.show.specs.Pieces.{ROOM, placed, Says};
 
 use digits::put::{Page, put_bytes};
+use print::print::ROOM;
 
-// Writes out the first bytes of a buffer: none where it has fewer.
-fn write_out(bytes: &[u8], count: usize) {
-    if count <= bytes.len() {
-        io::write_all(1, &bytes[..count]);
+// What a program prints into: a page that has room for any piece, once it is written out.
+#[derive(Drop)]
+pub struct Output<'a> {
+    pub page: Page<'a>,
+    ghost roomy: { ROOM ≤ length page.bytes.now },
+}
+
+impl<'a> Output<'a> {
+    // Nothing is printed yet.
+    pub fn new(bytes: &'a mut [u8]) -> Output<'a>
+        requires { ROOM ≤ length bytes.old }
+        ensures same_reference { result.page.bytes.ghost_name ≡ bytes.entry.ghost_name }
+        ensures bytes { result.page.bytes.now ≡ bytes.old }
+        ensures place { result.page.at ≡ 0 }
+    {
+        Output {
+            page: Page { bytes, at: 0 },
+        }
     }
 }
 
 // Writes out what was printed. Printing goes on at the page's start.
-pub fn flush(page: &mut Page<'_>)
-    ensures same_page { SamePage page.old page.new }
-    ensures bytes { page.new.bytes.now ≡ page.old.bytes.now }
-    ensures place { page.new.at ≡ 0 }
+pub fn flush(out: &mut Output<'_>)
+    ensures same_page { SamePage out.old.page out.new.page }
+    ensures bytes { out.new.page.bytes.now ≡ out.old.page.bytes.now }
+    ensures place { out.new.page.at ≡ 0 }
 {
-    let at = page.at;
+    let page = &mut out.page;
     // Through a `&mut`: read as `&[u8]` straight from the page, it is not known to be as it was.
     let bytes = &mut *page.bytes;
-    write_out(bytes, at);
+    if let Some(printed) = bytes.get(..page.at) {
+        io::write_all(1, printed);
+    }
     page.at = 0;
 }
 
-// Makes room for one piece: where there is too little, what was printed is written out first. The clause on the page's length stands
-// in each contract that needs it: no type has it, since a ghost field beside a `&mut` isn't covered by the checker.
-pub fn room(page: &mut Page<'_>)
-    requires { 256 ≤ length page.old.bytes.now }
-    ensures same_page { SamePage page.old page.new }
-    ensures bytes { page.new.bytes.now ≡ page.old.bytes.now }
-    ensures place { page.new.at ≡ placed (length page.old.bytes.now) page.old.at }
-    ensures in_bounds { page.new.at + 256 ≤ length page.old.bytes.now }
+// Makes room for one piece: where there is too little, what was printed is written out first.
+pub fn room(out: &mut Output<'_>)
+    ensures same_page { SamePage out.old.page out.new.page }
+    ensures bytes { out.new.page.bytes.now ≡ out.old.page.bytes.now }
+    ensures place { out.new.page.at ≡ placed (length out.old.page.bytes.now) out.old.page.at }
+    ensures in_bounds { out.new.page.at + ROOM ≤ length out.old.page.bytes.now }
 {
-    if page.at > page.bytes.len() - 256 {
-        flush(page);
+    if out.page.at > out.page.bytes.len() - ROOM {
+        flush(out);
     }
 }
 
 // A few bytes.
-pub fn word(page: &mut Page<'_>, text: &[u8])
-    requires in_bounds { 256 ≤ length page.old.bytes.now }
-    requires text_len_bound { length text.now ≤ 256 }
-    ensures same_page { SamePage page.old page.new }
-    ensures said { Says page.old page.new (text.now ∷ []) }
+pub fn word(out: &mut Output<'_>, text: &[u8])
+    requires { length text.now ≤ ROOM }
+    ensures same_page { SamePage out.old.page out.new.page }
+    ensures said { Says out.old.page out.new.page (text.now ∷ []) }
 {
-    room(page);
-    put_bytes(page, text);
+    room(out);
+    put_bytes(&mut out.page, text);
 }

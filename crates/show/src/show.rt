@@ -1,12 +1,11 @@
-ghost use Rattle.std.specs.Prelude.{◌≡◌, [], ◌∷◌, ◌+◌, ◌≤◌, ◌<◌, min, length};
+ghost use Rattle.std.specs.Prelude.{◌≡◌, [], ◌∷◌, ◌+◌, min};
 ghost use Rattle.rules.specs.Rules.{rows_seen};
 ghost use Rattle.digits.specs.Page.{SamePage};
 ghost use Rattle.print.specs.Texts.{kind_text, mark_text, row_text};
 ghost use Rattle.show.specs.Pieces.{Says};
 ghost use Rattle.show.specs.Shown.{each, cell_at, both, row_piece, row_pieces, entry_pieces, mark_pieces};
 
-use crate::buffer::{room, word};
-use digits::put::Page;
+use crate::buffer::{Output, room, word};
 use parts::amounts::amount_of;
 use print::print::{Cells, put_kind, put_mark, put_row};
 use rules::numbers::{CROWN, ENTRY};
@@ -30,10 +29,9 @@ fn logged_amount(log: &[u32], at: usize) -> Option<u64>
 }
 
 // A row's four numbers.
-pub fn row_cells(page: &mut Page<'_>, seen: Seen<'_>, i: u32)
-    requires { 256 ≤ length page.old.bytes.now }
-    ensures same_page { SamePage page.old page.new }
-    ensures said { Says page.old page.new (row_piece (rows_seen seen.entry) i ∷ []) }
+pub fn row_cells(out: &mut Output<'_>, seen: Seen<'_>, i: u32)
+    ensures same_page { SamePage out.old.page out.new.page }
+    ensures said { Says out.old.page out.new.page (row_piece (rows_seen seen.entry) i ∷ []) }
 {
     let place = i as usize;
     let base = place * CROWN;
@@ -43,39 +41,36 @@ pub fn row_cells(page: &mut Page<'_>, seen: Seen<'_>, i: u32)
         owner: cell(seen.crowns, base + 1),
         amount: seen.amounts.get(place).copied(),
     };
-    room(page);
-    put_row(page, row);
+    room(out);
+    put_row(&mut out.page, row);
 }
 
 // The first `n` rows, a bar before each.
-pub fn rows(page: &mut Page<'_>, seen: Seen<'_>, n: u32)
-    requires { 256 ≤ length page.old.bytes.now }
-    ensures same_page { SamePage page.old page.new }
-    ensures said { Says page.old page.new (each n (row_pieces (rows_seen seen.entry))) }
+pub fn rows(out: &mut Output<'_>, seen: Seen<'_>, n: u32)
+    ensures same_page { SamePage out.old.page out.new.page }
+    ensures said { Says out.old.page out.new.page (each n (row_pieces (rows_seen seen.entry))) }
 {
     for i in 0..n {
-        word(page, b" |");
-        row_cells(page, seen, i);
+        word(out, b" |");
+        row_cells(out, seen, i);
     }
 }
 
 // An entry's six numbers, after a bar.
-pub fn put_entry(page: &mut Page<'_>, kind: Option<u64>, key: Option<u64>, row: Cells)
-    requires { 256 ≤ length page.old.bytes.now }
-    ensures same_page { SamePage page.old page.new }
-    ensures said { Says page.old page.new (kind_text kind key ∷ row_text row.parent row.rank row.owner row.amount ∷ []) }
+pub fn put_entry(out: &mut Output<'_>, kind: Option<u64>, key: Option<u64>, row: Cells)
+    ensures same_page { SamePage out.old.page out.new.page }
+    ensures said { Says out.old.page out.new.page (kind_text kind key ∷ row_text row.parent row.rank row.owner row.amount ∷ []) }
 {
-    room(page);
-    put_kind(page, kind, key);
-    room(page);
-    put_row(page, row);
+    room(out);
+    put_kind(&mut out.page, kind, key);
+    room(out);
+    put_row(&mut out.page, row);
 }
 
 // Entry `i` of the log.
-fn entry_cells(page: &mut Page<'_>, log: &[u32], i: u32)
-    requires { 256 ≤ length page.old.bytes.now }
-    ensures same_page { SamePage page.old page.new }
-    ensures said { Says page.old page.new (entry_pieces log.now i) }
+fn entry_cells(out: &mut Output<'_>, log: &[u32], i: u32)
+    ensures same_page { SamePage out.old.page out.new.page }
+    ensures said { Says out.old.page out.new.page (entry_pieces log.now i) }
 {
     let base = i as usize * ENTRY;
     let row = Cells {
@@ -84,37 +79,34 @@ fn entry_cells(page: &mut Page<'_>, log: &[u32], i: u32)
         owner: cell(log, base + 4),
         amount: logged_amount(log, base + 5),
     };
-    put_entry(page, cell(log, base), cell(log, base + 1), row);
+    put_entry(out, cell(log, base), cell(log, base + 1), row);
 }
 
 // The first `n` entries, a bar before each.
-pub fn entries(page: &mut Page<'_>, log: &[u32], n: u32)
-    requires { 256 ≤ length page.old.bytes.now }
-    ensures same_page { SamePage page.old page.new }
-    ensures said { Says page.old page.new (each n (entry_pieces log.now)) }
+pub fn entries(out: &mut Output<'_>, log: &[u32], n: u32)
+    ensures same_page { SamePage out.old.page out.new.page }
+    ensures said { Says out.old.page out.new.page (each n (entry_pieces log.now)) }
 {
     for i in 0..n {
-        entry_cells(page, log, i);
+        entry_cells(out, log, i);
     }
 }
 
 // One mark, after a bar.
-fn one_mark(page: &mut Page<'_>, mark: Mark)
-    requires { 256 ≤ length page.old.bytes.now }
-    ensures same_page { SamePage page.old page.new }
-    ensures said { Says page.old page.new (mark_text mark ∷ []) }
+fn one_mark(out: &mut Output<'_>, mark: Mark)
+    ensures same_page { SamePage out.old.page out.new.page }
+    ensures said { Says out.old.page out.new.page (mark_text mark ∷ []) }
 {
-    room(page);
-    put_mark(page, mark);
+    room(out);
+    put_mark(&mut out.page, mark);
 }
 
 // The first `n` marks, and no more than there are.
-pub fn marks(page: &mut Page<'_>, state: State, n: u32)
-    requires { 256 ≤ length page.old.bytes.now }
-    ensures same_page { SamePage page.old page.new }
-    ensures said { Says page.old page.new (each (min n 32) (mark_pieces state)) }
+pub fn marks(out: &mut Output<'_>, state: State, n: u32)
+    ensures same_page { SamePage out.old.page out.new.page }
+    ensures said { Says out.old.page out.new.page (each (min n 32) (mark_pieces state)) }
 {
     for &mark in &state.marks[..n.min(32) as usize] {
-        one_mark(page, mark);
+        one_mark(out, mark);
     }
 }

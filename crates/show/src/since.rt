@@ -1,20 +1,18 @@
 // The entries since a snapshot, printed as they are lent: each is read through the view of the log.
-ghost use Rattle.std.specs.Prelude.{◌≤◌, length};
 ghost use Rattle.digits.specs.Page.{SamePage};
 ghost use Rattle.show.specs.Pieces.{Says};
 ghost use Rattle.show.specs.Shown.{numbers_pieces, since_pieces};
 
+use crate::buffer::Output;
 use crate::show::put_entry;
-use actions::view::lent_action_at;
-use digits::put::Page;
+use actions::view::actions_between;
 use parts::entries::Numbers;
 use print::print::Cells;
 
 // An entry's six numbers, after a bar.
-fn entry(page: &mut Page<'_>, numbers: Numbers)
-    requires { 256 ≤ length page.old.bytes.now }
-    ensures same_page { SamePage page.old page.new }
-    ensures said { Says page.old page.new (numbers_pieces numbers) }
+fn entry(out: &mut Output<'_>, numbers: Numbers)
+    ensures same_page { SamePage out.old.page out.new.page }
+    ensures said { Says out.old.page out.new.page (numbers_pieces numbers) }
 {
     let old = numbers.old;
     let row = Cells {
@@ -24,7 +22,7 @@ fn entry(page: &mut Page<'_>, numbers: Numbers)
         amount: Some(old.amount),
     };
     put_entry(
-        page,
+        out,
         Some(numbers.kind as u64),
         Some(numbers.key as u64),
         row,
@@ -32,12 +30,12 @@ fn entry(page: &mut Page<'_>, numbers: Numbers)
 }
 
 // The entries of the log from one to another, oldest first.
-pub fn entries_since(page: &mut Page<'_>, log: &[u32], from: u32, to: u32)
-    requires { 256 ≤ length page.old.bytes.now }
-    ensures same_page { SamePage page.old page.new }
-    ensures said { Says page.old page.new (since_pieces log.now from to) }
+pub fn entries_since(out: &mut Output<'_>, log: &[u32], from: u32, to: u32)
+    ensures same_page { SamePage out.old.page out.new.page }
+    ensures said { Says out.old.page out.new.page (since_pieces log.now from to) }
 {
+    let view = actions_between(log, from, to);
     for i in 0..to.saturating_sub(from) {
-        entry(page, lent_action_at(log, from, to, i as usize));
+        entry(out, view.lent_entry(i as usize));
     }
 }

@@ -1,71 +1,113 @@
 -- Laws of a line's words. Assumes nothing.
-use Rattle.std.specs.Prelude.{◌≡◌, ◌∷◌, ◌++◌, ◌+◌, ◌-◌, ◌≤◌, ◌<◌}
-use Rattle.kit.specs.Names.{refl, sym, ◌∙◌, Bool, true, false, cond, List, [], ℕ, zero, suc, length, get_or, take, drop, length-drop, drop_of_length-le, eqb, drop-cons}
-use Rattle.kit.specs.Names.{take-suc, get_or-drop, length-take-le, arith, dec_lt, add-one, eq-eqb, eqb-true, ne_eqb}
-use Rattle.std.proofs.Common.{nat_eq, unwrap_or, not, add-zero}
+use Rattle.std.specs.Prelude.{◌≡◌, ◌∷◌, ◌++◌, ◌+◌, ◌≤◌, ◌<◌, None, Some}
+use Rattle.kit.specs.Names.{refl, ap, sym, ◌∙◌, Bool, true, false, cond, List, [], ℕ, suc, length, get_or, take, drop, length-append, length-take-le, drop-cons, append-nil, append_assoc, eqb, eqb-true, eq-eqb, arith}
+use Rattle.std.proofs.Common.{nat_eq, unwrap_or, not}
 use Rattle.std.specs.List.{position, position_or_len}
 use Rattle.std.proofs.lemmas.Grind.{common_steps}
 use Rattle.std.proofs.lemmas.Bool.Decides.{nat_tests, Decides-eqb}
 use Rattle.std.proofs.lemmas.Slice.Eq.{slice_eq-Decides}
 use Rattle.std.specs.Cmp.Lexicographic.{pointwise}
-use Rattle.std.proofs.lemmas.List.Sums.{fails_before_first, passes_at_first, prefix_len-le-length}
-use Rattle.words.specs.Line.{BLANK, ended, place_in, Skipped, Spans, words_after, words}
+use Rattle.std.proofs.lemmas.List.Quantifiers.{position-Some}
+use Rattle.std.proofs.lemmas.List.Recursion.{is_position_or_len}
+use Rattle.std.proofs.lemmas.List.Sums.{prefix_len-le-length}
+use Rattle.std.proofs.lemmas.Bool.{and_parts}
+use Rattle.words.specs.Line.{BLANK, ended, place_in, words_after, words}
 use Rattle.words.specs.Bytes.{same_bytes}
-use Rattle.words.proofs.NumeralLaws.{both}
 
--- a blank in front of a line changes none of its words
-pub past_blank : (line : List ℕ) (i : ℕ) → i < length line → get_or line i 0 ≡ BLANK → words (drop i line) ≡ words (drop (i + 1) line)
+-- ---- the first word of a text
+
+-- the blanks in front of a word, and the letters before a blank
+abbrev blanks : List ℕ → ℕ
+blanks = position_or_len (λ b. not (eqb b BLANK))
+
+abbrev letters : List ℕ → ℕ
+letters = position_or_len (λ b. eqb b BLANK)
+
+-- the blanks in front change none of a text's words
+past_blanks : (text : List ℕ) → words text ≡ words (drop (blanks text) text)
 unfolding words_after
-past_blank line i h b = rw (add-one i, drop-cons line i 0 h, eq-eqb (get_or line i 0) BLANK b)
+past_blanks [] = refl
+past_blanks (b ∷ bs) = go (eqb b BLANK) refl (past_blanks bs)
+  where
+    go : (t : Bool) → eqb b BLANK ≡ t → words bs ≡ words (drop (blanks bs) bs) → words (b ∷ bs) ≡ words (drop (blanks (b ∷ bs)) (b ∷ bs))
+    go true e more =
+        let at : blanks (b ∷ bs) ≡ suc (blanks bs) = rw e (omega arith) in
+        let here : words (b ∷ bs) ≡ words bs = rw e refl in
+        rw at (here ∙ more)
+    go false e more =
+        let at : blanks (b ∷ bs) ≡ 0 = rw e refl in
+        rw at refl
 
--- the part of a line between two places
-abbrev pub part : List ℕ → ℕ → ℕ → List ℕ
-part line start end = take (end - start) (drop start line)
-
--- one byte more of a word
-pub past_letter : (line : List ℕ) (start i : ℕ) → start ≤ i → i < length line → (get_or line i 0 ≡ BLANK → ⊥)
-    → words_after (part line start i) (drop i line) ≡ words_after (part line start (i + 1)) (drop (i + 1) line)
+-- a word that was begun goes on up to the next blank or the text's end
+up_to_blank : (word text : List ℕ) → words_after word text ≡ ended (word ++ take (letters text) text) (words (drop (letters text) text))
 unfolding words_after
-past_letter line start i s h b =
-    let inside : i - start < length (drop start line) = omega (arith, length-drop start line) in
-    let size : i + 1 - start ≡ suc (i - start) = omega arith in
-    let here : start + (i - start) ≡ i = omega arith in
-    let next : part line start (i + 1) ≡ part line start i ++ (get_or line i 0 ∷ []) =
-    rw (size, take-suc (drop start line) (i - start) 0 inside, get_or-drop, here) in
-    rw (next, add-one i, drop-cons line i 0 h, ne_eqb (get_or line i 0) BLANK b)
+up_to_blank word [] = ap (λ w. ended w []) (sym (append-nil word))
+up_to_blank word (b ∷ bs) = go (eqb b BLANK) refl (up_to_blank (word ++ (b ∷ [])) bs)
+  where
+    go : (t : Bool) → eqb b BLANK ≡ t → words_after (word ++ (b ∷ [])) bs ≡ ended ((word ++ (b ∷ [])) ++ take (letters bs) bs) (words (drop (letters bs) bs))
+        → words_after word (b ∷ bs) ≡ ended (word ++ take (letters (b ∷ bs)) (b ∷ bs)) (words (drop (letters (b ∷ bs)) (b ∷ bs)))
+    go true e more =
+        let at : letters (b ∷ bs) ≡ 0 = rw e refl in
+        let here : words_after word (b ∷ bs) ≡ ended word (words bs) = rw e refl in
+        let rest : words (b ∷ bs) ≡ words bs = rw e refl in
+        rw at (here ∙ ap (λ ws. ended word ws) (sym rest) ∙ ap (λ w. ended w (words (b ∷ bs))) (sym (append-nil word)))
+    go false e more =
+        let at : letters (b ∷ bs) ≡ suc (letters bs) = rw e (omega arith) in
+        let here : words_after word (b ∷ bs) ≡ words_after (word ++ (b ∷ [])) bs = rw e refl in
+        rw at (here ∙ more ∙ ap (λ w. ended w (words (drop (letters bs) bs))) (append_assoc word (b ∷ []) (take (letters bs) bs)))
 
--- a word's first byte
-pub first_letter : (line : List ℕ) (start : ℕ) → start < length line → (get_or line start 0 ≡ BLANK → ⊥)
-    → words (drop start line) ≡ words_after (part line start (start + 1)) (drop (start + 1) line)
-first_letter line start h b =
-    let nothing : start - start ≡ 0 = omega arith in
-    rw nothing at (past_letter line start start (omega arith) h b)
+first_or_end : {X : Type 0} (p : X → Bool) (xs : List X) → unwrap_or (position p xs) (length xs) ≡ position_or_len p xs
+first_or_end p xs = grind (arith, nat_tests, prefix_len-le-length)
 
--- a word that was begun ends at the line's end and at a blank
-pub some_word : (word : List ℕ) (rest : List (List ℕ)) → 0 < length word → ended word rest ≡ word ∷ rest
+none_first : {X : Type 0} (p : X → Bool) (xs : List X) → position p xs ≡ None → position_or_len p xs ≡ length xs
+none_first p xs e = sym (first_or_end p xs) ∙ ap (λ o. unwrap_or o (length xs)) e
+
+some_first : {X : Type 0} (p : X → Bool) (xs : List X) {i : ℕ} → position p xs ≡ Some i → position_or_len p xs ≡ i
+some_first p xs e = sym (first_or_end p xs) ∙ ap (λ o. unwrap_or o (length xs)) e
+
+-- a text of blanks has no words
+pub no_words : (text : List ℕ) → position (λ b. not (eqb b BLANK)) text ≡ None → words text ≡ []
+unfolding words_after
+no_words text e =
+    let nothing : drop (blanks text) text ≡ [] = grind (arith, common_steps, none_first (λ b. not (eqb b BLANK)) text e) in
+    past_blanks text ∙ ap words nothing
+
+some_word : (word : List ℕ) (rest : List (List ℕ)) → 0 < length word → ended word rest ≡ word ∷ rest
 some_word [] rest h = absurd (omega arith)
 some_word (b ∷ bs) rest h = refl
 
-pub part_size : (line : List ℕ) (start i : ℕ) → start < i → i ≤ length line → 0 < length (part line start i)
-part_size line start i begun inside = omega (arith, length-take-le (i - start) (drop start line) (omega (arith, length-drop start line)))
+-- a text from its first letter on begins with a word
+module _ (text : List ℕ) {start n : ℕ} (first : position (λ b. not (eqb b BLANK)) text ≡ Some start) (begun : List ℕ) (cut : begun ≡ drop start text)
+    (len : n ≡ unwrap_or (position (λ b. eqb b BLANK) begun) (length begun)) where
+  pub word_first : words text ≡ take n begun ∷ words (drop n begun)
+  word_first =
+      let found = position-Some (λ b. not (eqb b BLANK)) text start 0 first in
+      let at : blanks text ≡ start = some_first (λ b. not (eqb b BLANK)) text first in
+      let size : n ≡ letters begun = len ∙ first_or_end (λ b. eqb b BLANK) begun in
+      let shape : begun ≡ get_or text start 0 ∷ drop (suc start) text = cut ∙ drop-cons text start 0 found.0 in
+      let one : letters begun ≡ 1 + letters (drop (suc start) text) = rw (shape, found.1) refl in
+      let some : 0 < length (take n begun) = omega (arith, one, size, length-take-le n begun (rw size (prefix_len-le-length _ begun))) in
+      past_blanks text ∙ rw at (ap words (sym cut)) ∙ up_to_blank [] begun ∙ ap (λ k. ended (take k begun) (words (drop k begun))) (sym size)
+      ∙ some_word (take n begun) (words (drop n begun)) some
 
-pub no_words : (line : List ℕ) (i : ℕ) → length line ≤ i → words (drop i line) ≡ []
+-- a text has no more words than bytes
+few : (word text : List ℕ) → length (words_after word text) ≤ length word + length text
 unfolding words_after
-no_words line i h = rw (drop_of_length-le line {i = i} h)
+few [] [] = omega arith
+few (b ∷ bs) [] = omega arith
+few word (b ∷ bs) = go (eqb b BLANK) (omega (arith, few [] bs)) (few (word ++ (b ∷ [])) bs)
+  where
+    one : (w : List ℕ) (ws : List (List ℕ)) → length (ended w ws) ≤ length w + length ws
+    one [] ws = omega arith
+    one (x ∷ xs) ws = omega arith
 
--- what was read from a place on is a word, where a blank or the line's end comes next
-module _ (line : List ℕ) (start i : ℕ) (begun : start < i) (inside : i ≤ length line) (next : i < length line → get_or line i 0 ≡ BLANK) where
-  ends : words_after (part line start i) (drop i line) ≡ part line start i ∷ words (drop i line)
-  unfolding words_after
-  ends =
-      let size = part_size line start i begun inside in
-      elim (dec_lt i (length line)) [
-        | yes h ↦ rw (drop-cons line i 0 h, eq-eqb (get_or line i 0) BLANK (next h)) (some_word (part line start i) (words_after [] (drop (suc i) line)) size)
-        | no h ↦ rw (drop_of_length-le line {i = i} (omega arith)) (some_word (part line start i) [] size)
-      ]
+    go : (t : Bool) → length (words bs) ≤ length bs → length (words_after (word ++ (b ∷ [])) bs) ≤ length (word ++ (b ∷ [])) + length bs
+        → length (cond t (ended word (words bs)) (words_after (word ++ (b ∷ [])) bs)) ≤ length word + length (b ∷ bs)
+    go true h k = omega (arith, one word (words bs))
+    go false h k = omega (arith, length-append word (b ∷ []))
 
-  pub spans : ((get_or line start 0 ≡ BLANK → ⊥) → words (drop start line) ≡ words_after (part line start i) (drop i line)) → Spans line start i
-  spans read = record { some = begun; inside = inside; first = λ b. read b ∙ ends }
+pub few_words : (text : List ℕ) → length (words text) ≤ length text
+few_words text = omega (arith, few [] text)
 
 -- ---- a word among others
 
@@ -73,7 +115,7 @@ pub same_bytes_lem : (xs ys : List ℕ) → same_bytes xs ys ≡ true → xs ≡
 unfolding same_bytes
 same_bytes_lem [] [] e = refl
 same_bytes_lem (x ∷ xs) (y ∷ ys) e =
-    let h = both (eqb x y) (same_bytes xs ys) e in
+    let h = and_parts (eqb x y) (same_bytes xs ys) e in
     let first : x ≡ y = eqb-true x y h.0 in
     let rest : xs ≡ ys = same_bytes_lem xs ys h.1 in
     cc
@@ -111,71 +153,8 @@ placed (w ∷ ws) word = go (same_bytes word w) (same_bytes_lem word w) (placed 
     go true same more = (omega arith, λ h. sym (same refl))
     go false same more = (omega arith, λ h. more.1 (omega arith))
 
-module _ (all rest : List (List ℕ)) (word : List ℕ) (passed : ℕ) {more : List (List ℕ)} {w : List ℕ} (so_far : place_in all word ≡ passed + place_in rest word) (split : rest ≡ w ∷ more) where
-  pub this_word : same_bytes word w ≡ true → passed ≡ place_in all word
-  unfolding place_in
-  this_word e = rw (so_far, split, e) (omega arith)
-
-  pub next_word : same_bytes word w ≡ false → place_in all word ≡ passed + 1 + place_in more word
-  unfolding place_in
-  next_word e = rw (so_far, split, e) (omega arith)
-
--- ---- the first byte that is a blank, or none
-
-first_or_end : {X : Type 0} (p : X → Bool) (xs : List X) → unwrap_or (position p xs) (length xs) ≡ position_or_len p xs
-first_or_end p xs = grind (arith, nat_tests, prefix_len-le-length)
-
--- the rest of a line from a place on, as it is cut
-abbrev rest_from : List ℕ → ℕ → List ℕ
-rest_from line from = take (length line - from) (drop from line)
-
-rest_of : (line : List ℕ) (from : ℕ) → rest_from line from ≡ drop from line
-rest_of line from = grind (arith, common_steps)
-
-abbrev LETTER : ℕ → Bool
-LETTER b = not (eqb b BLANK)
-
-is_blank : (b : ℕ) → LETTER b ≡ false → b ≡ BLANK
-is_blank b e = grind (arith, nat_tests)
-
-is_letter : (b : ℕ) → LETTER b ≡ true → b ≡ BLANK → ⊥
-is_letter b e q = grind (arith, nat_tests)
-
-not_blank : (b : ℕ) → eqb b BLANK ≡ false → b ≡ BLANK → ⊥
-not_blank b e q = grind (arith, nat_tests)
-
--- so many blanks in front change none of a line's words
-past_blanks : (line : List ℕ) (from n : ℕ) → from + n ≤ length line → ((k : ℕ) → k < n → get_or line (from + k) 0 ≡ BLANK) → words (drop from line) ≡ words (drop (from + n) line)
-past_blanks line from zero h q = rw add-zero
-past_blanks line from (suc n) h q =
-    let e : from + suc n ≡ from + n + 1 = omega arith in
-    rw e (past_blanks line from n (omega arith) (λ k l. q k (omega arith)) ∙ past_blank line (from + n) (omega arith) (q n (omega arith)))
-
-pub skipped : (line : List ℕ) (from : ℕ) → from ≤ length line → {n : ℕ} → n ≡ unwrap_or (position LETTER (rest_from line from)) (length (rest_from line from)) → Skipped line from (from + n)
-skipped line from inside {n} said =
-    let e : n ≡ position_or_len LETTER (drop from line) = rw (rest_of line from, first_or_end LETTER (drop from line)) at said in
-    let rest : length (drop from line) ≡ length line - from = length-drop from line in
-    let few : n ≤ length (drop from line) = rw e (prefix_len-le-length _ (drop from line)) in
-    record {
-      onward = omega arith;
-      inside = omega arith;
-      same = past_blanks line from n (omega arith) (λ k l. rw get_or-drop at (is_blank (get_or (drop from line) k 0) (fails_before_first LETTER (drop from line) k 0 (omega arith))));
-      none = λ h q. is_letter (get_or (drop from line) n 0) (rw (← e) at (passes_at_first LETTER (drop from line) 0 (omega arith))) (rw get_or-drop q);
-    }
-
--- so many letters more of a word
-past_letters : (line : List ℕ) (start n : ℕ) → start + 1 + n ≤ length line → ((k : ℕ) → k < n → get_or line (start + 1 + k) 0 ≡ BLANK → ⊥) → (get_or line start 0 ≡ BLANK → ⊥)
-    → words (drop start line) ≡ words_after (part line start (start + 1 + n)) (drop (start + 1 + n) line)
-past_letters line start zero h q b = rw add-zero (first_letter line start (omega arith) b)
-past_letters line start (suc n) h q b =
-    let e : start + 1 + suc n ≡ start + 1 + n + 1 = omega arith in
-    rw e (past_letters line start n (omega arith) (λ k l. q k (omega arith)) b ∙ past_letter line start (start + 1 + n) (omega arith) (omega arith) (q n (omega arith)))
-
-pub spanned : (line : List ℕ) (start : ℕ) → start < length line → {n : ℕ} → n ≡ unwrap_or (position (λ b. eqb b BLANK) (rest_from line (start + 1))) (length (rest_from line (start + 1))) → Spans line start (start + 1 + n)
-spanned line start inside {n} said =
-    let e : n ≡ position_or_len (λ b. eqb b BLANK) (drop (start + 1) line) = rw (rest_of line (start + 1), first_or_end (λ b. eqb b BLANK) (drop (start + 1) line)) at said in
-    let rest : length (drop (start + 1) line) ≡ length line - (start + 1) = length-drop (start + 1) line in
-    let few : n ≤ length (drop (start + 1) line) = rw e (prefix_len-le-length _ (drop (start + 1) line)) in
-    spans line start (start + 1 + n) (omega arith) (omega arith)
-    (λ h. eqb-true _ _ (rw (get_or-drop, ← e) at (passes_at_first (λ b. eqb b BLANK) (drop (start + 1) line) 0 (omega arith))))
-    (past_letters line start n (omega arith) (λ k l q. not_blank (get_or (drop (start + 1) line) k 0) (fails_before_first (λ b. eqb b BLANK) (drop (start + 1) line) k 0 (omega arith)) (rw get_or-drop q)))
+-- the first place of a word is that of the search
+pub first_place : (ws : List (List ℕ)) (word : List ℕ) → unwrap_or (position (same_bytes word) ws) (length ws) ≡ place_in ws word
+unfolding place_in
+first_place ws word =
+    first_or_end (same_bytes word) ws ∙ sym (is_position_or_len (λ ys. place_in ys word) (same_bytes word) refl (λ x xs. ap (λ n. cond (same_bytes word x) 0 n) (omega arith)) ws)

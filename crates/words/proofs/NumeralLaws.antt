@@ -4,18 +4,15 @@ use Rattle.kit.specs.Names.{refl, Bool, true, false, cond, List, [], ℕ, suc, l
 use Rattle.std.proofs.Common.{inl, inr}
 use Rattle.kit.specs.Names.{le-div_iff_mul-le, div-lt_iff_lt-mul, le-leb, leb-true, lt-leb, lt-ltb}
 use Rattle.std.specs.Char.{IsNotAsciiDigit}
+use Rattle.std.proofs.lemmas.Bool.{and_parts}
 use Rattle.words.specs.Numeral.{all_digits, decimal, is_numeral, numeral}
 
 -- ---- what a number that was read says
 
-pub both : (x y : Bool) → x && y ≡ true → (x ≡ true) × (y ≡ true)
-both true y e = (refl, e)
-both false y e = absurd (let z : ◌≡◌ {A = ℕ} 0 1 = cc in omega arith)
-
 pub in_limit : (limit : ℕ) (w : List ℕ) → is_numeral limit w ≡ true → decimal 0 w ≤ limit
 in_limit limit w e =
-    let h = both (all_digits w) (ltb 0 (length w) && leb (decimal 0 w) limit) e in
-    leb-true (decimal 0 w) limit (both (ltb 0 (length w)) (leb (decimal 0 w) limit) h.1).1
+    let h = and_parts (all_digits w) (ltb 0 (length w) && leb (decimal 0 w) limit) e in
+    leb-true (decimal 0 w) limit (and_parts (ltb 0 (length w)) (leb (decimal 0 w) limit) h.1).1
 
 abbrev Says : ℕ → List ℕ → Option ℕ → Type 0
 Says limit w None = is_numeral limit w ≡ false
@@ -29,11 +26,6 @@ says limit w e = rw e (go (is_numeral limit w) refl)
     go false q = q
 
 -- ---- reading, digit by digit
-
-pub read_empty : (w : List ℕ) (limit : ℕ) → length w ≡ 0 → None ≡ numeral limit w
-unfolding all_digits
-read_empty [] limit e = refl
-read_empty (b ∷ bs) limit e = absurd (omega arith)
 
 -- one digit more: the test before it is taken in says that the value stays within the limit
 pub fits_more : (limit n d : ℕ) → 9 ≤ limit → d ≤ 9 → n ≤ (limit - d) / 10 → n * 10 + d ≤ limit

@@ -1,6 +1,6 @@
 -- A line's words. CALLS.md: "words separated by blanks".
-use Rattle.std.specs.Prelude.{◌≡◌, ◌∷◌, ◌++◌, ◌-◌, ◌≤◌, ◌<◌}
-use Rattle.kit.specs.Names.{cond, List, [], ℕ, suc, length, get_or, take, drop, eqb}
+use Rattle.std.specs.Prelude.{◌∷◌, ◌++◌}
+use Rattle.kit.specs.Names.{cond, List, [], ℕ, suc, eqb}
 use Rattle.words.specs.Bytes.{same_bytes}
 
 abbrev pub BLANK : ℕ
@@ -23,18 +23,3 @@ words line = words_after [] line
 unfoldable pub place_in : List (List ℕ) → List ℕ → ℕ
 place_in [] word = 0
 place_in (w ∷ ws) word = cond (same_bytes word w) 0 (suc (place_in ws word))
-
--- ---- places in a line
-
--- only blanks stand between two places, and none at the second
-pub record Skipped (line : List ℕ) (from at : ℕ) : Type 0 where
-  pub onward : from ≤ at
-  pub inside : at ≤ length line
-  pub same : words (drop from line) ≡ words (drop at line)
-  pub none : at < length line → get_or line at 0 ≡ BLANK → ⊥
-
--- a word stands between two places, where no blank is at the first
-pub record Spans (line : List ℕ) (start end : ℕ) : Type 0 where
-  pub some : start < end
-  pub inside : end ≤ length line
-  pub first : (get_or line start 0 ≡ BLANK → ⊥) → words (drop start line) ≡ take (end - start) (drop start line) ∷ words (drop end line)

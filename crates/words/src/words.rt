@@ -1,7 +1,9 @@
-// The words of a line, by their places.
-ghost use Rattle.std.specs.Prelude.{◌≡◌, ◌==◌, ◌≤◌, ◌<◌, length, not};
+// The words of a line, one after the other.
+ghost use Rattle.std.specs.Prelude.{◌≡◌, ◌==◌, ◌<◌, ◌∷◌, [], IfSome, length, not};
+ghost use Rattle.std.specs.Iterator.{YieldsFirstRef, item_count};
 ghost use Rattle.std.specs.List.{position};
-ghost use Rattle.words.specs.Line.{BLANK, place_in, Skipped, Spans, words};
+ghost use Rattle.std.specs.Option.{MatchOption, unwrap_or};
+ghost use Rattle.words.specs.Line.{BLANK, place_in, words};
 
 // The first byte of a text that is no blank.
 fn first_letter(text: &[u8]) -> Option<usize>
@@ -17,40 +19,36 @@ fn first_blank(text: &[u8]) -> Option<usize>
     text.iter().position(|byte| *byte == b' ')
 }
 
-// The first place from `from` on that is no blank, or the line's end.
-pub fn skip_blanks(line: &[u8], from: usize) -> usize
-    requires { from ≤ length line.now }
-    ensures { Skipped line.now from result }
+// A text's first word, and what comes after it.
+fn first_word(text: &[u8]) -> Option<(&[u8], &[u8])>
+    ensures { MatchOption result (words text.now ≡ []) (λ p. words text.now ≡ p.0.now ∷ words p.1.now) }
 {
-    let rest = &line[from..];
-    from + first_letter(rest).unwrap_or(rest.len())
+    let begun = &text[first_letter(text)?..];
+    Some(begun.split_at(first_blank(begun).unwrap_or(begun.len())))
 }
 
-// The end of the word that begins at `start`: the next blank, or the line's end.
-pub fn word_end(line: &[u8], start: usize) -> usize
-    requires { start < length line.now }
-    ensures { Spans line.now start result }
-{
-    let next = start + 1;
-    let rest = &line[next..];
-    next + first_blank(rest).unwrap_or(rest.len())
-}
+// The words of a text from its beginning on.
+#[derive(Clone, Drop)]
+pub struct Words<'a>(pub &'a [u8]);
 
-// Which of a text's words this is, counted from 0; where it is none of them, how many there are: no `Option`, since that is what
-// `place_in` of specs/Line.antt gives, on which `form_at` rests.
-pub fn place_of(text: &[u8], word: &[u8]) -> usize
-    ensures { result ≡ place_in (words text.now) word.now }
-{
-    let mut passed = 0;
-    let mut at = skip_blanks(text, 0);
-    // The step is a word's length and that of the blanks after it.
-    while at < text.len() {
-        let end = word_end(text, at);
-        if word == &text[at..end] {
-            return passed;
-        }
-        passed += 1;
-        at = skip_blanks(text, end);
+impl<'a> Iterator for Words<'a> {
+    type Item = &'a [u8];
+
+    ghost next_gives = { YieldsFirstRef (λ s. words s.0.now) };
+
+    ghost remaining = { item_count (λ s. words s.0.now) };
+
+    fn next(&mut self) -> Option<&'a [u8]> {
+        let (word, rest) = first_word(self.0)?;
+        self.0 = rest;
+        Some(word)
     }
-    passed
+}
+
+// Which of a text's words this is, counted from 0.
+pub fn place_of(text: &[u8], word: &[u8]) -> Option<usize>
+    ensures value { unwrap_or result (length (words text.now)) ≡ place_in (words text.now) word.now }
+    ensures upper_bound { IfSome result (λ i. i < length (words text.now)) }
+{
+    Words(text).position(|other| word == other)
 }

@@ -10,6 +10,6 @@ returns-in_default c = record {
   said = saying (none_follow c.args.log.now c.args.call c.args.answer c.in_default.not-Actions) nothing;
 }
 
-pub returns-clause-said : goal.returns-clause-said
-returns-clause-said c =
+pub returns-in-Actions-clause-said : goal.returns-in-Actions-clause-said
+returns-in-Actions-clause-said c =
     saying (entries_follow c.args.log.now c.args.call c.args.answer c.in-Actions.field-0 c.in-Actions.is) c.entries_since.ensures.said

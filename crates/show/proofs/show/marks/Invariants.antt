@@ -5,4 +5,4 @@ use Rattle.show.specs.Shown.{each, mark_pieces}
 use Rattle.show.proofs.show.marks.Given as goal
 
 abbrev pub invariant-loop-mark : goal.invariant-loop-mark
-invariant-loop-mark l = record { same_page : SamePage l.fn.page l.page; said : Says l.fn.page l.page (each l.mark-index (mark_pieces l.fn.state)) }
+invariant-loop-mark l = record { same_page : SamePage l.fn.out.page l.out.page; said : Says l.fn.out.page l.out.page (each l.mark-index (mark_pieces l.fn.state)) }

@@ -6,4 +6,4 @@ use Rattle.show.specs.Shown.{each, row_pieces}
 use Rattle.show.proofs.show.rows.Given as goal
 
 abbrev pub invariant-loop-i : goal.invariant-loop-i
-invariant-loop-i l = record { same_page : SamePage l.fn.page l.page; said : Says l.fn.page l.page (each l.i (row_pieces (rows_seen l.seen))) }
+invariant-loop-i l = record { same_page : SamePage l.fn.out.page l.out.page; said : Says l.fn.out.page l.out.page (each l.i (row_pieces (rows_seen l.seen))) }

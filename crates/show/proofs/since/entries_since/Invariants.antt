@@ -11,4 +11,4 @@ abbrev pub seen : Log → ℕ → ℕ → ℕ → Pieces
 seen l from to i = numbers_pieces (lent_at (viewed l from to) i)
 
 abbrev pub invariant-loop-i : goal.invariant-loop-i
-invariant-loop-i l = record { same_page : SamePage l.fn.page l.page; said : Says l.fn.page l.page (each l.i (seen l.log l.from l.to)) }
+invariant-loop-i l = record { same_page : SamePage l.fn.out.page l.out.page; said : Says l.fn.out.page l.out.page (each l.i (seen l.fn.log l.fn.from l.fn.to)) }

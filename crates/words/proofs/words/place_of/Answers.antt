@@ -1,25 +1,17 @@
--- The word that stands where the loop is is this one, or one more was passed. Assumes nothing.
-use Rattle.kit.specs.Names.{ap, ◌∙◌, arith}
-use Rattle.words.specs.Line.{place_in}
-use Rattle.words.proofs.LineLaws.{next_word, no_words, this_word, told_equal}
+use Rattle.kit.specs.Names.{arith, inl, refl, sym, rules}
+use Rattle.std.proofs.lemmas.Iterator.Consumers.{YieldsList-from_first}
+use Rattle.std.proofs.lemmas.Iterator.Search.{position_from_yields_List}
+use Rattle.words.specs.Bytes.{same_bytes}
+use Rattle.words.specs.Line.{words}
+use Rattle.words.specs.declared.words.Words.{Words}
+use Rattle.words.proofs.LineLaws.{few_words, first_place, told_equal}
 use Rattle.words.proofs.words.place_of.Goals as goal
 
-pub returns-then-eq : goal.returns-then-eq
-returns-then-eq c =
-    this_word _ _ _ _ c.loop-at.invariant.so_far (c.word_end-end.ensures.first (c.loop-at.invariant.letter (omega arith))) (told_equal _ _ c.eq.ensures ∙ c.if-eq.true)
+pub position-requires-clause-fits : goal.position-requires-clause-fits
+position-requires-clause-fits c = inl (omega (arith, few_words c.args.text.now))
 
-pub loop-at-preserved : goal.loop-at-preserved
-loop-at-preserved c =
-    let skip = c.skip_blanks-at-in-loop-at.ensures in
-    let split = c.word_end-end.ensures.first (c.loop-at.invariant.letter (omega arith)) in
-    let more = next_word _ _ _ c.loop-at.passed c.loop-at.invariant.so_far split (told_equal _ _ c.eq.ensures ∙ c.if-eq.false) in
-    record {
-      few = omega arith;
-      inside = skip.inside;
-      letter = skip.none;
-      so_far = omega (arith, more, ap (λ ws. place_in ws c.args.word.now) skip.same);
-    }
-
-pub returns : goal.returns
-unfolding place_in
-returns c = omega (arith, ap (λ ws. place_in ws c.args.word.now) (no_words c.args.text.now c.loop-at.at (omega arith)))
+pub returns-clause-value : goal.returns-clause-value
+returns-clause-value c =
+    let all = words c.args.text.now in
+    rw (position_from_yields_List (same_bytes c.args.word.now) c.position.new.self _ c.position.result c.position.ensures.ran (YieldsList-from_first (λ w. w.now) (λ (s : Words). words s.0.now) {s = record { 0 = c.args.text }} all refl) (λ x b q k. (search rules, sym (told_equal _ _ (search rules)))))
+    (first_place all c.args.word.now)
