@@ -7,6 +7,7 @@ use std::alloc::{AllocError, Global};
 use std::process::ExitCode;
 use verb_words::answer::ended;
 use verb_words::given::program_words;
+use verb_words::verbs::{MOST_ROOM, SMALL_ROOM};
 
 mod verb;
 
@@ -18,7 +19,7 @@ fn main(rt: HostRuntime) -> ExitCode {
 fn append(rt: &HostRuntime) -> Result<ExitCode> {
     let words = program_words(rt)?;
     let alloc = rt.alloc();
-    let mut buffer = zeros(alloc, 16777216).or_else(|_| zeros(alloc, 1048576))?;
+    let mut buffer = zeros(alloc, MOST_ROOM as usize).or_else(|_| zeros(alloc, SMALL_ROOM))?;
     append_verb(rt, &words, &mut buffer)
 }
 

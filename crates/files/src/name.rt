@@ -4,19 +4,22 @@ use paths::path::path_with;
 use std::io;
 use std::io::{Error, ErrorKind};
 
-// The space is the caller's array, and no `String`: an allocation could fail where nothing did.
-// A name beside a file's, with this suffix. A path that the system takes has fewer than 4,096 bytes. A longer one doesn't fit, and then no
-// file has that name.
-pub fn name_beside<'a>(path: &str, suffix: &str, space: &'a mut [u8; 4160]) -> io::Result<&'a str>
+// Room for a name beside a file's. A path that the system takes has fewer than 4,096 bytes.
+pub const NAME_SPACE: usize = 4160;
+
+// A name beside a file's, with this suffix. Where it doesn't fit it is too long for the system, and no file has it. The space is the
+// caller's array, and no `String`: an allocation could fail where nothing did.
+pub fn name_beside<'a>(
+    path: &str,
+    suffix: &str,
+    space: &'a mut [u8; NAME_SPACE],
+) -> io::Result<&'a str>
     ensures { IfOk result (λ name. name.now ≡ path.now ++ suffix.now) }
 {
-    let Some(beside) = path_with(path.as_bytes(), suffix.as_bytes(), space) else {
-        return Err(Error::from(ErrorKind::InvalidFilename));
-    };
-    match std::str::from_utf8(beside) {
-        Ok(name) => Ok(name),
-        Err(_) => Err(Error::from(ErrorKind::InvalidFilename)),
-    }
+    let beside = path_with(path.as_bytes(), suffix.as_bytes(), space).ok_or(
+        ErrorKind::InvalidFilename,
+    )?;
+    std::str::from_utf8(beside).map_err(|_| Error::from(ErrorKind::InvalidFilename))
 }
 
 // Whether the error says that there is no such file. Where its name is too long there is none.

@@ -1,4 +1,4 @@
-use crate::name::{is_absent, name_beside};
+use crate::name::{NAME_SPACE, is_absent, name_beside};
 use paths::path::directory;
 use std::fs::OpenFile;
 use std::io::Write;
@@ -37,7 +37,7 @@ fn take_name(rt: &impl Files, from: &str, path: &str) -> io::Result<()> {
 
 // Makes the file, or another of its name anew, whole or not at all: it is written beside, then renamed.
 pub fn write_whole(rt: &impl Files, path: &str, bytes: &[u8]) -> io::Result<()> {
-    let mut space = [0; 4160];
+    let mut space = [0; NAME_SPACE];
     let beside = name_beside(path, ".unfinished", &mut space)?;
     make_file(rt, beside, bytes)?;
     take_name(rt, beside, path)

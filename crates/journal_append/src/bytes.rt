@@ -1,4 +1,4 @@
-ghost use Rattle.std.specs.Prelude.{◌≤◌, length};
+ghost use Rattle.std.specs.Prelude.{◌≤◌, length, IfSome};
 
 use anyhow::{Context, Result};
 use appending::append::append;
@@ -21,17 +21,17 @@ pub fn lent(used: usize, room: usize, most: usize) -> usize
 pub fn append_bytes(
     rt: &(impl Files + Print),
     shelf: Shelf<'_>,
-    used: usize,
     entries: &[u8],
     buffer: &mut [u8],
 ) -> Result<ExitCode>
-    requires { used ≤ length buffer.old }
+    requires { IfSome shelf.kept (λ used. used ≤ length buffer.old) }
 {
+    let used = shelf.used();
     let most = lent(used, shelf.room, buffer.len());
     match append(&mut buffer[..most], used, entries) {
         Ok(end) => {
             let segment = &buffer[used..end];
-            add_segment(rt, shelf.path, shelf.existed, used, segment).context(shelf.path)?;
+            add_segment(rt, shelf.path, shelf.kept, segment).context(shelf.path)?;
             end_with(rt, 0, end as u64)
         }
         // Here less was lent than the room that was asked for: that is the program's own.

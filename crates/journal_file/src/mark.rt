@@ -1,10 +1,10 @@
 // The mark beside a journal: its length in decimal digits, and a line feed.
-ghost use Rattle.std.specs.Prelude.{◌≡◌, ◌++◌, ◌≤◌, IfOk};
+ghost use Rattle.std.specs.Prelude.{◌≡◌, ◌++◌, IfOk};
 ghost use Rattle.words.specs.Bytes.{bytes as text};
 ghost use Rattle.journal_file.specs.Mark.{length_marked};
 
 use digits::put::{Page, put_byte, put_number};
-use files::name::{is_absent, is_too_long, name_beside};
+use files::name::{NAME_SPACE, is_absent, is_too_long, name_beside};
 use files::read::read_file;
 use files::write::write_whole;
 use std::io;
@@ -12,7 +12,7 @@ use std::rt::Files;
 use words::number::read;
 
 // The mark's path.
-pub fn mark_path<'a>(path: &str, space: &'a mut [u8; 4160]) -> io::Result<&'a str>
+pub fn mark_path<'a>(path: &str, space: &'a mut [u8; NAME_SPACE]) -> io::Result<&'a str>
     ensures { IfOk result (λ name. name.now ≡ path.now ++ text ".length") }
 {
     name_beside(path, ".length", space)
@@ -28,11 +28,9 @@ pub fn read_mark(text: &[u8]) -> Option<usize>
     read(digits, u64::MAX).map(|length| length as usize)
 }
 
-// The bytes of the mark beside a journal. Answers how many.
-fn mark_bytes(rt: &impl Files, journal: &str, text: &mut [u8; 64]) -> io::Result<usize>
-    ensures { IfOk result (λ count. count ≤ 64) }
-{
-    let mut space = [0; 4160];
+// The bytes of the mark beside a journal.
+fn mark_bytes<'a>(rt: &impl Files, journal: &str, text: &'a mut [u8; 64]) -> io::Result<&'a [u8]> {
+    let mut space = [0; NAME_SPACE];
     read_file(rt, mark_path(journal, &mut space)?, text)
 }
 
@@ -40,7 +38,7 @@ fn mark_bytes(rt: &impl Files, journal: &str, text: &mut [u8; 64]) -> io::Result
 pub fn find_mark(rt: &impl Files, journal: &str) -> io::Result<Option<usize>> {
     let mut text = [0; 64];
     match mark_bytes(rt, journal, &mut text) {
-        Ok(length) => Ok(read_mark(&text[..length])),
+        Ok(mark) => Ok(read_mark(mark)),
         Err(error) if is_absent(&error) || is_too_long(&error) => Ok(None),
         Err(error) => Err(error),
     }

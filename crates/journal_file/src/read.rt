@@ -1,28 +1,17 @@
-ghost use Rattle.std.specs.Prelude.{◌≡◌, ◌≤◌, length, IfOk, OnErr};
+ghost use Rattle.std.specs.Prelude.{◌≤◌, length, IfOk};
 
 use crate::mark::find_mark;
 use files::read::{read_file, read_front};
 use std::io;
 use std::rt::Files;
 
-// Reads a journal: all of its file, or as much as a mark beside it says. Answers how many bytes it has.
-pub fn read_journal(rt: &impl Files, path: &str, buffer: &mut [u8]) -> io::Result<usize>
-    ensures ok { IfOk result (λ count. count ≤ length buffer.new) }
-    ensures err { OnErr result (length buffer.new ≡ length buffer.old) }
+// Reads a journal into the buffer: all of its file, or as much as a mark beside it says. Where the buffer has no room for so much, a file
+// that fits has fewer bytes, and all of them count.
+pub fn read_journal<'a>(rt: &impl Files, path: &str, buffer: &'a mut [u8]) -> io::Result<&'a [u8]>
+    ensures { IfOk result (λ journal. length journal.now ≤ length buffer.old) }
 {
     match find_mark(rt, path)? {
-        None => read_file(rt, path, buffer),
-        Some(most) => read_up_to(rt, path, most, buffer),
-    }
-}
-
-// The journal's first `most` bytes. Where the buffer has no room for so many, a file that fits has fewer, and all of them count.
-fn read_up_to(rt: &impl Files, path: &str, most: usize, buffer: &mut [u8]) -> io::Result<usize>
-    ensures ok { IfOk result (λ count. count ≤ length buffer.new) }
-    ensures err { OnErr result (length buffer.new ≡ length buffer.old) }
-{
-    match buffer.get_mut(..most) {
-        Some(front) => read_front(rt, path, front),
-        None => read_file(rt, path, buffer),
+        Some(most) if most <= buffer.len() => read_front(rt, path, &mut buffer[..most]),
+        _ => read_file(rt, path, buffer),
     }
 }

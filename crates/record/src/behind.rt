@@ -1,12 +1,12 @@
 // A journal replayed, and a list recorded behind it.
-ghost use Rattle.std.specs.Prelude.{◌≤◌, vec_len};
+ghost use Rattle.std.specs.Prelude.{◌≤◌, vec_len, IfSome};
 
 use anyhow::{Context, Result};
 use journal::known::{Book, Known};
 use journal_append::bytes::lent;
-use layout::state::LentState;
+use layout::state::{LentState, NUMBERS, SERIALS};
 use record_answer::desk::Desk;
-use record_answer::disk::is_short;
+use record_answer::disk::is_log_short;
 use record_calls::calls::record_calls;
 use replaying::replay::replay;
 use rules::table::Lent;
@@ -18,18 +18,18 @@ use valid::valid::segments;
 use verb_journal::named::{Shelf, too_large};
 use verb_words::answer::end_with;
 
-// Replays the journal's first `used` bytes into a fresh table in all of the memory, and then records CALLS.
+// Replays the journal, which the memory holds, into a fresh table in all of it, and then records CALLS.
 pub fn record_journal(
     rt: &(impl Files + Input + Print),
     calls: &str,
     shelf: Shelf<'_>,
-    used: usize,
     memory: &mut Memory,
 ) -> Result<ExitCode>
-    requires { used ≤ vec_len memory.old.journal }
+    requires { IfSome shelf.kept (λ used. used ≤ vec_len memory.old.journal) }
 {
-    let mut numbers = [0; 67];
-    let mut serials = [0; 33];
+    let used = shelf.used();
+    let mut numbers = [0; NUMBERS];
+    let mut serials = [0; SERIALS];
     let mut state = LentState {
         numbers: &mut numbers,
         serials: &mut serials,
@@ -71,7 +71,7 @@ fn refuse(
     entry: usize,
     log: usize,
 ) -> Result<ExitCode> {
-    if is_short(no, 0, 0, log) {
+    if is_log_short(no, log) {
         return Err(too_large(shelf.path));
     }
     end_with(rt, no, entry as u64)

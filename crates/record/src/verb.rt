@@ -4,7 +4,7 @@ use anyhow::{Result, bail};
 use std::process::ExitCode;
 use std::rt::Files;
 use storage::memory::Memory;
-use verb_journal::named::{Shelf, found_journal};
+use verb_journal::named::Shelf;
 use verb_words::verbs::append_words;
 
 // A verb that has its words, which are those of `append` with CALLS for ENTRIES.
@@ -16,11 +16,6 @@ pub fn record_verb(
     let Some(asked) = append_words(words) else {
         bail!("usage: ./meter record JOURNAL CALLS [room N]");
     };
-    let found = found_journal(rt, asked.journal, &mut memory.journal)?;
-    let shelf = Shelf {
-        path: asked.journal,
-        existed: found.is_some(),
-        room: asked.room,
-    };
-    record_journal(rt, asked.entries, shelf, found.unwrap_or(0), memory)
+    let shelf = Shelf::find(rt, asked.journal, asked.room, &mut memory.journal)?;
+    record_journal(rt, asked.entries, shelf, memory)
 }

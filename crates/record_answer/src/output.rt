@@ -1,13 +1,11 @@
-ghost use Rattle.std.specs.Prelude.{◌≤◌, length};
 ghost use Rattle.digits.specs.Page.{SamePage};
 
 use digits::put::{Page, put_byte, put_next, put_number};
-use show::buffer::{flush, word};
+use show::buffer::{Output, flush, word};
 
 // `NO NUMBER` and a line feed.
-pub fn put_pair(page: &mut Page<'_>, no: u32, number: u64)
-    requires { 256 ≤ length page.old.bytes.now }
-    ensures same_page { SamePage page.old page.new }
+pub fn put_pair(out: &mut Output<'_>, no: u32, number: u64)
+    ensures same_page { SamePage out.old.page out.new.page }
 {
     let mut text = [0; 64];
     let mut line = Page {
@@ -18,14 +16,14 @@ pub fn put_pair(page: &mut Page<'_>, no: u32, number: u64)
     put_next(&mut line, number);
     put_byte(&mut line, b'\n');
     let end = line.at;
-    word(page, &text[..end]);
+    word(out, &text[..end]);
 }
 
 // Where the journal grew, all is written out that was printed: who waits for the answer learns that it is on disk.
-pub fn written_out(page: &mut Page<'_>, old: usize, new: usize)
-    ensures same_page { SamePage page.old page.new }
+pub fn written_out(out: &mut Output<'_>, old: usize, new: usize)
+    ensures same_page { SamePage out.old.page out.new.page }
 {
     if new > old {
-        flush(page);
+        flush(out);
     }
 }

@@ -1,9 +1,7 @@
-ghost use Rattle.std.specs.Prelude.{◌≤◌, length};
 ghost use Rattle.digits.specs.Page.{SamePage};
 
 use crate::input::read_on;
 use anyhow::{Context, Result};
-use digits::put::Page;
 use line_asked::asked::line_asked;
 use lines::gather::Kept;
 use reading::read::{Reading, begin};
@@ -12,7 +10,7 @@ use record_answer::desk::Desk;
 use record_answer::disk::on_disk;
 use record_answer::output::put_pair;
 use recording::segment::flush;
-use show::buffer::flush as write_out;
+use show::buffer::{Output, flush as write_out};
 use std::io::Read;
 use std::process::ExitCode;
 use std::rt::Files;
@@ -23,12 +21,11 @@ use verb_words::answer::answered;
 fn answer_all<R: Read>(
     rt: &impl Files,
     desk: &mut Desk<'_>,
-    page: &mut Page<'_>,
+    out: &mut Output<'_>,
     source: &mut R,
     line: &mut [u8],
 ) -> Result<()>
-    requires { 256 ≤ length page.old.bytes.now }
-    ensures same_page { SamePage page.old page.new }
+    ensures same_page { SamePage out.old.page out.new.page }
 {
     let mut input = [0; 65536];
     let mut reading = begin();
@@ -39,7 +36,7 @@ fn answer_all<R: Read>(
         reading = read_on(source, reading, &mut input, line).context("CALLS")?;
         if reading.ended {
             let asked = line_asked(line, reading.kept);
-            answer_line(rt, desk, page, asked, reading.line)?;
+            answer_line(rt, desk, out, asked, reading.line)?;
             reading = Reading {
                 kept: Kept::default(),
                 ended: false,
@@ -52,11 +49,10 @@ fn answer_all<R: Read>(
 
 // The end of the list: what waits is put on disk as a segment, and then all is written out that was printed. A journal that has no room for
 // the segment stays as it is.
-fn finish(rt: &impl Files, desk: &mut Desk<'_>, page: &mut Page<'_>) -> Result<ExitCode> {
-    let old = desk.book.known.used;
+fn finish(rt: &impl Files, desk: &mut Desk<'_>, out: &mut Output<'_>) -> Result<ExitCode> {
     let _ = flush(&mut desk.book);
-    on_disk(rt, desk.shelf, &desk.book, old)?;
-    write_out(page);
+    on_disk(rt, &mut desk.shelf, &desk.book)?;
+    write_out(out);
     Ok(answered(0))
 }
 
@@ -69,12 +65,9 @@ pub fn record_calls<R: Read>(
     source: &mut R,
     line: &mut [u8],
 ) -> Result<ExitCode> {
-    let mut out = [0; 65536];
-    let mut page = Page {
-        bytes: &mut out,
-        at: 0,
-    };
-    put_pair(&mut page, 0, entries);
-    answer_all(rt, desk, &mut page, source, line)?;
-    finish(rt, desk, &mut page)
+    let mut bytes = [0; 65536];
+    let mut out = Output::new(&mut bytes);
+    put_pair(&mut out, 0, entries);
+    answer_all(rt, desk, &mut out, source, line)?;
+    finish(rt, desk, &mut out)
 }

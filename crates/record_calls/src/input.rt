@@ -1,21 +1,6 @@
-use reading::read::{Reading, take};
+use reading::read::{Reading, read_more, take};
 use std::io;
 use std::io::Read;
-
-// More input, where none is at hand and there is any. Unlike `reading::read::refill` it tells an input that can't be read from one that
-// has ended.
-fn refill_from<R: Read>(source: &mut R, reading: Reading, input: &mut [u8]) -> io::Result<Reading> {
-    if reading.from < reading.count {
-        return Ok(reading);
-    }
-    let count = source.read(input)?;
-    Ok(Reading {
-        from: 0,
-        count,
-        more: count > 0,
-        ..reading
-    })
-}
 
 // The input read on, up to a line's end. A list that can't be read any further has no line that ends.
 pub fn read_on<R: Read>(
@@ -24,6 +9,6 @@ pub fn read_on<R: Read>(
     input: &mut [u8],
     line: &mut [u8],
 ) -> io::Result<Reading> {
-    let filled = refill_from(source, reading, input)?;
+    let filled = read_more(reading, source, input)?;
     Ok(take(filled, input, line))
 }

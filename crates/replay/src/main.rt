@@ -3,25 +3,27 @@
 
 use anyhow::Result;
 use replay_verb::verb::replay_verb;
+use rules::numbers::{MAX_ENTRIES, MAX_ROWS};
 use std::process::ExitCode;
 use storage::memory::{Memory, Sizes};
 use verb_words::answer::ended;
 use verb_words::given::program_words;
+use verb_words::verbs::{MOST_ROOM, SMALL_ROOM};
 
 // A row and an entry more than document 01's limits, so that more than they allow can be lent, and a journal of 16 MiB take some 48 MB.
 const LARGE: Sizes = Sizes {
-    rows: 65537,
-    entries: 1048577,
+    rows: MAX_ROWS as u32 + 1,
+    entries: MAX_ENTRIES as u32 + 1,
     line: 0,
-    journal: 16777216,
+    journal: MOST_ROOM as usize,
 };
 
 // Where there is less, smaller journals and logs are taken.
 const SMALL: Sizes = Sizes {
-    rows: 65537,
+    rows: MAX_ROWS as u32 + 1,
     entries: 131072,
     line: 0,
-    journal: 1048576,
+    journal: SMALL_ROOM,
 };
 
 fn main(rt: HostRuntime) -> ExitCode {

@@ -1,7 +1,7 @@
 use anyhow::{Context, Result};
 use print_live::live::print_table;
 use replay_lent::replay::Rebuilt;
-use rules::numbers::BAD_JOURNAL;
+use rules::refusal::Refusal;
 use rules::table::Seen;
 use std::process::ExitCode;
 use verb_words::answer::{answered, print_line};
@@ -10,8 +10,8 @@ use verb_words::answer::{answered, print_line};
 pub fn answer(rt: &impl Print, rebuilt: Rebuilt, seen: Seen<'_>) -> Result<ExitCode> {
     let no = rebuilt.no;
     print_line(rt, no, rebuilt.entry as u64).context("standard output")?;
-    if no != BAD_JOURNAL {
-        print_table(rebuilt.lengths, rebuilt.state, seen);
+    if no != Refusal::BadJournal.code() {
+        print_table(rebuilt.holding, seen);
     }
     Ok(answered(no))
 }

@@ -1,10 +1,12 @@
 use crate::lending::{entries_lent, entries_wanted, rows_lent};
+use arrays::reply::Holding;
 use commands::command::Lengths;
-use layout::state::LentState;
+use layout::state::{LentState, NUMBERS, SERIALS};
 use lent_state::state::state_in;
 use replaying::replay::replay;
-use rules::numbers::{ENTRY, LOG_FULL, MAX_ENTRIES};
-use rules::table::{Lent, State};
+use rules::numbers::{ENTRY, MAX_ENTRIES};
+use rules::refusal::Refusal;
+use rules::table::Lent;
 use storage::memory::Memory;
 
 // What replay answered, how much was lent, and the table's state.
@@ -12,14 +14,13 @@ use storage::memory::Memory;
 pub struct Rebuilt {
     pub no: u32,
     pub entry: usize,
-    pub lengths: Lengths,
-    pub state: State,
+    pub holding: Holding,
 }
 
 // The journal replayed into a fresh table in all of the parts.
 fn replay_fresh(lent: &mut Lent<'_>, bytes: &[u8], lengths: Lengths) -> Rebuilt {
-    let mut numbers = [0; 67];
-    let mut serials = [0; 33];
+    let mut numbers = [0; NUMBERS];
+    let mut serials = [0; SERIALS];
     let mut state = LentState {
         numbers: &mut numbers,
         serials: &mut serials,
@@ -28,8 +29,10 @@ fn replay_fresh(lent: &mut Lent<'_>, bytes: &[u8], lengths: Lengths) -> Rebuilt 
     Rebuilt {
         no: ended.no,
         entry: ended.entry,
-        lengths,
-        state: state_in(&state),
+        holding: Holding {
+            lengths,
+            state: state_in(&state),
+        },
     }
 }
 
@@ -58,12 +61,12 @@ pub fn replay_lent(
         log: &mut memory.log[..entries * ENTRY],
     };
     let rebuilt = replay_fresh(&mut lent, &memory.journal[..used], lengths);
-    let short = entries < wanted && is_short(asked_log, rebuilt.no);
+    let short = entries < wanted && is_about_log(asked_log, rebuilt.no);
     (!short).then_some(rebuilt)
 }
 
 // Whether an answer over a log that is shorter than was asked for is about that: more is asked for than document 01 allows and can't be
 // lent, or the log is full.
-fn is_short(asked: u64, no: u32) -> bool {
-    asked > MAX_ENTRIES as u64 || no == LOG_FULL
+fn is_about_log(asked: u64, no: u32) -> bool {
+    asked > MAX_ENTRIES as u64 || no == Refusal::LogFull.code()
 }

@@ -17,7 +17,7 @@ pub fn replay_verb(
     let Some(asked) = replay_words(words) else {
         bail!("usage: ./meter replay JOURNAL [rows N] [log N]");
     };
-    let used = journal_named(rt, asked.journal, &mut memory.journal)?;
+    let used = journal_named(rt, asked.journal, &mut memory.journal)?.len();
     let Some(rebuilt) = replay_lent(asked.rows, asked.log, memory, used) else {
         bail!("log: larger than the program takes");
     };

@@ -25,10 +25,7 @@ pub fn option_of(
     if word != name {
         return Ok(None);
     }
-    match read(number, limit) {
-        Some(n) => Ok(Some(n)),
-        None => Err(OptionError::NoNumber),
-    }
+    read(number, limit).map(Some).ok_or(OptionError::NoNumber)
 }
 
 // The option of this name, if the words begin with it, and the words after it.
