@@ -22,7 +22,7 @@ fn make_file(rt: &impl Files, path: &str, bytes: &[u8]) -> io::Result<()> {
 }
 
 // Waits until the names in the directory in which the file is are on disk.
-pub fn sync_directory(rt: &impl Files, path: &str) -> io::Result<()> {
+fn sync_directory(rt: &impl Files, path: &str) -> io::Result<()> {
     fs::open(rt, directory(path).unwrap_or("."))?.sync_all()
 }
 

@@ -12,7 +12,7 @@ use std::rt::Files;
 use words::number::read;
 
 // The mark's path.
-pub fn mark_path<'a>(path: &str, space: &'a mut [u8; NAME_SPACE]) -> io::Result<&'a str>
+pub(crate) fn mark_path<'a>(path: &str, space: &'a mut [u8; NAME_SPACE]) -> io::Result<&'a str>
     ensures { IfOk result (λ name. name.now ≡ path.now ++ text ".length") }
 {
     name_beside(path, ".length", space)
@@ -35,7 +35,7 @@ fn mark_bytes<'a>(rt: &impl Files, journal: &str, text: &'a mut [u8; 64]) -> io:
 }
 
 // What the mark beside a journal says, if there is one. A path that is too long for a mark has none.
-pub fn find_mark(rt: &impl Files, journal: &str) -> io::Result<Option<usize>> {
+pub(crate) fn find_mark(rt: &impl Files, journal: &str) -> io::Result<Option<usize>> {
     let mut text = [0; 64];
     match mark_bytes(rt, journal, &mut text) {
         Ok(mark) => Ok(read_mark(mark)),
@@ -45,7 +45,7 @@ pub fn find_mark(rt: &impl Files, journal: &str) -> io::Result<Option<usize>> {
 }
 
 // Makes a mark, on disk.
-pub fn make_mark(rt: &impl Files, path: &str, length: usize) -> io::Result<()> {
+pub(crate) fn make_mark(rt: &impl Files, path: &str, length: usize) -> io::Result<()> {
     let mut text = [0; 32];
     let mut page = Page {
         bytes: &mut text,

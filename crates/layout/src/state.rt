@@ -4,6 +4,7 @@ ghost use Rattle.rules.specs.Rules.{MAX-OPEN, mark_at};
 ghost use Rattle.layout.specs.State.{NUMBERS, Sized, head_in};
 ghost use Rattle.layout.specs.Lent.{head_lent, state_in};
 
+use crate::seen::{head_of, mark_at};
 use rules::table::{Head, Mark};
 use sought::marks::Marks;
 pub use sought::marks::{asked_mark, closing_mark};
@@ -34,17 +35,6 @@ fn sized(_numbers: &[u32; NUMBERS], _serials: &[u64; SERIALS])
     ensures { Sized _numbers.now _serials.now }
 {}
 
-// The head that stands in the short numbers.
-fn head_of(numbers: &[u32; NUMBERS]) -> Head
-    ensures { result ≡ head_in numbers.now }
-{
-    Head {
-        count: numbers[0],
-        used: numbers[1],
-        open: numbers[2],
-    }
-}
-
 impl LentState<'_> {
     // The head of the state.
     pub fn head(&self) -> Head
@@ -60,15 +50,10 @@ impl LentState<'_> {
 impl Marks for LentState<'_> {
     ghost state = { state_in };
 
-    #[tactic(auto, using(crate::proofs::LayoutLaws::mark_read))]
     fn mark(&self, i: usize) -> Mark {
         let numbers = &*self.numbers;
         let serials = &*self.serials;
-        let at = mark_place(i);
-        Mark {
-            serial: serials[i + 1],
-            log_len: numbers[at],
-            keys: numbers[at + 1],
-        }
+        sized(numbers, serials);
+        mark_at(numbers, serials, i)
     }
 }

@@ -1,16 +1,16 @@
 ghost use Rattle.std.specs.Prelude.{◌≡◌, drop};
-ghost use Rattle.layout.specs.State.{Sized, marks_of};
+ghost use Rattle.layout.specs.State.{Sized, marks_of, state_of};
 ghost use Rattle.layout.specs.Lent.{state_in};
 
+use layout::seen::{head_of, mark_at};
 use layout::state::LentState;
 use rules::table::{Mark, State};
-use sought::marks::Marks;
 
 // All marks. They are written one by one: of what `from_fn` or `iter_mut` makes too little is known.
 #[tactic(auto, using(crate::proofs::MarksLaws::all_marks))]
-fn marks_in(state: &LentState<'_>) -> [Mark; 32]
-    requires { Sized state.now.numbers.now state.now.serials.now }
-    ensures { result ≡ marks_of (drop 3 state.now.numbers.now) (drop 1 state.now.serials.now) }
+fn marks_in(numbers: &[u32], serials: &[u64]) -> [Mark; 32]
+    requires { Sized numbers.now serials.now }
+    ensures { result ≡ marks_of (drop 3 numbers.now) (drop 1 serials.now) }
 {
     let none = Mark {
         serial: 0,
@@ -19,22 +19,31 @@ fn marks_in(state: &LentState<'_>) -> [Mark; 32]
     };
     let mut marks = [none; 32];
     for i in 0..32 {
-        marks[i] = state.mark(i);
+        marks[i] = mark_at(numbers, serials, i);
     }
     marks
+}
+
+// The state that numbers are which are lent to be read alone.
+pub fn state_of(numbers: &[u32], serials: &[u64]) -> State
+    requires { Sized numbers.now serials.now }
+    ensures { result ≡ state_of numbers.now serials.now }
+{
+    let head = head_of(numbers);
+    State {
+        count: head.count,
+        used: head.used,
+        open: head.open,
+        last: serials[0],
+        marks: marks_in(numbers, serials),
+    }
 }
 
 // The state that the numbers are.
 pub fn state_in(state: &LentState<'_>) -> State
     ensures { result ≡ state_in state.now }
 {
-    let head = state.head();
-    let serials = &*state.serials;
-    State {
-        count: head.count,
-        used: head.used,
-        open: head.open,
-        last: serials[0],
-        marks: marks_in(state),
-    }
+    // For the lengths, which it says.
+    state.head();
+    state_of(state.numbers, state.serials)
 }

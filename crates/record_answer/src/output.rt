@@ -20,7 +20,7 @@ pub fn put_pair(out: &mut Output<'_>, no: u32, number: u64)
 }
 
 // Where the journal grew, all is written out that was printed: who waits for the answer learns that it is on disk.
-pub fn written_out(out: &mut Output<'_>, old: usize, new: usize)
+pub(crate) fn written_out(out: &mut Output<'_>, old: usize, new: usize)
     ensures same_page { SamePage out.old.page out.new.page }
 {
     if new > old {

@@ -1,8 +1,9 @@
 -- Laws of logging a walk's rows before they are rewritten. Assumes nothing.
 use Rattle.std.specs.Prelude.{◌≡◌, ◌∷◌, ◌+◌, ◌-◌, ◌≤◌, ◌<◌}
 use Rattle.kit.specs.Names.{refl, ap, sym, ◌∙◌, List, [], ℕ, zero, suc, length, get_or, take, drop, length-take, drop-cons, get_or-take, arith, eq-eqb, ne_eqb}
-use Rattle.rules.specs.Rules.{MAX-REDIRECTS, Memory, redirect}
-use Rattle.parts.specs.Bounds.{InRows}
+use Rattle.rules.specs.declared.table.UndoLog.TheVariants.{SetElem}
+use Rattle.rules.specs.Rules.{MAX-REDIRECTS, row_at, put_entry, Memory, memory, redirect}
+use Rattle.parts.specs.Bounds.{InRows, InLog}
 use Rattle.parts.proofs.BoundLaws.{even_row}
 use Rattle.roots.specs.declared.path.Trail.{Trail}
 use Rattle.roots.specs.Trail.{root_of, passed_of, Short, Sound}
@@ -20,6 +21,11 @@ saves_shut (k ∷ []) m q = refl
 saves_shut (k ∷ next ∷ passed) m q =
     let ih = saves_shut (next ∷ passed) m q in
     rw (← ih, eq-eqb m.opened 0 q)
+
+-- with one open the row is an entry more
+pub row_saved : (key : ℕ) (m : Memory) → (m.opened ≡ 0 → ⊥)
+    → memory m.rows (put_entry m.log m.used (SetElem key (row_at m.rows key))) m.opened (m.used + 1) ≡ saved key m
+row_saved key m o = rw (ne_eqb m.opened 0 o)
 
 -- one row more
 saves_more : (passed : List ℕ) (m : Memory) (j : ℕ) → suc j < length passed → saved (get_or passed j 0) (saves (drop (suc j) passed) m) ≡ saves (drop j passed) m
@@ -106,6 +112,15 @@ module _ (m₀ : Memory) (count : ℕ) (t : Trail) (S : Sound m₀.rows.parents 
         (passed_in m₀.rows.parents count MAX-REDIRECTS (get_or t.nodes 0 0) (root_of t) (passed_of t) there j (omega (arith, trail_length t S.short)))
         )
         )
+
+    pub entry_in : InLog m.used m.log
+    entry_in =
+        let room = R.room o in
+        let limit = R.limit in
+        let kept = L.kept in
+        let logged = L.logged in
+        let least = L.least in
+        record { words = omega arith; limit = omega arith }
 
 -- ---- at the end
 

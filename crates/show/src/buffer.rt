@@ -26,6 +26,16 @@ impl<'a> Output<'a> {
     }
 }
 
+// Writes out what bytes of any length hold before a place, and leaves them as they are. Answers where printing goes on: at their start.
+pub fn flush_bytes(bytes: &[u8], at: usize) -> usize
+    ensures { result ≡ 0 }
+{
+    if let Some(printed) = bytes.get(..at) {
+        io::write_all(1, printed);
+    }
+    0
+}
+
 // Writes out what was printed. Printing goes on at the page's start.
 pub fn flush(out: &mut Output<'_>)
     ensures same_page { SamePage out.old.page out.new.page }
@@ -35,10 +45,7 @@ pub fn flush(out: &mut Output<'_>)
     let page = &mut out.page;
     // Through a `&mut`: read as `&[u8]` straight from the page, it is not known to be as it was.
     let bytes = &mut *page.bytes;
-    if let Some(printed) = bytes.get(..page.at) {
-        io::write_all(1, printed);
-    }
-    page.at = 0;
+    page.at = flush_bytes(bytes, page.at);
 }
 
 // Makes room for one piece: where there is too little, what was printed is written out first.

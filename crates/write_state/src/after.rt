@@ -1,7 +1,7 @@
 // The numbers that a call leaves, written.
-ghost use Rattle.std.specs.Prelude.{◌≡◌};
+ghost use Rattle.std.specs.Prelude.{◌≡◌, length};
 ghost use Rattle.undo_log.specs.Settled.{state_after};
-ghost use Rattle.layout.specs.State.{headed};
+ghost use Rattle.layout.specs.State.{NUMBERS, headed};
 ghost use Rattle.layout.specs.Lent.{SameState, state_under};
 
 use layout::state::{LentState, mark_place};
@@ -33,13 +33,21 @@ pub fn write_after(state: &mut LentState<'_>, before: Head, settled: Settled)
     numbers[to + 1] = before.count;
 }
 
+// Writes a head over the short numbers.
+pub fn put_head(numbers: &mut [u32], head: Head)
+    requires { length numbers.old ≡ NUMBERS }
+    ensures { numbers.new ≡ headed numbers.old head }
+{
+    numbers[0] = head.count;
+    numbers[1] = head.used;
+    numbers[2] = head.open;
+}
+
 // Writes a head that was kept.
 pub fn write_head(state: &mut LentState<'_>, head: Head)
     ensures same_state { SameState state.old state.new }
     ensures numbers { state.new.numbers.now ≡ headed state.old.numbers.now head }
     ensures serials { state.new.serials.now ≡ state.old.serials.now }
 {
-    state.numbers[0] = head.count;
-    state.numbers[1] = head.used;
-    state.numbers[2] = head.open;
+    put_head(state.numbers, head);
 }

@@ -3,4 +3,4 @@ use Rattle.lent_state.proofs.MarksLaws.{SoFar}
 use Rattle.lent_state.proofs.state.marks_in.Given as goal
 
 abbrev pub invariant-loop-i : goal.invariant-loop-i
-invariant-loop-i l = SoFar l.state.numbers.now l.state.serials.now l.marks l.i
+invariant-loop-i l = SoFar l.numbers l.serials l.marks l.i
