@@ -49,19 +49,26 @@ onto_then {i} {j} {l} p q =
 
 -- ---- a recorder's beginnings
 
--- "An empty journal is valid."
-pub knows_empty : (bs : Bytes) → Knows bs (known 0 0 0 0) [] []
-unfolding read_to orderly open_in entries_at
-knows_empty bs =
+-- A whole journal that stands at the front of some bytes, behind which no entry waits: how a stored one is gone on with (docs/LIBRARY.md,
+-- "A day").
+pub knows_valid : (bs : Bytes) (used n : ℕ) (es : List Entry) → used ≤ length bs → journal_of (take used bs) ≡ journal n es → orderly 0 es ≡ true
+    → Knows bs (known used n (open_in 0 es) 0) es []
+unfolding entries_at
+knows_valid bs used n es h e o =
     record {
-      is = refl;
+      is = e;
       waits = refl;
       within = omega arith;
       few = omega arith;
-      sealable = λ h. absurd (omega arith);
-      opened = refl;
-      ordered = refl;
+      sealable = λ k. absurd (omega arith);
+      opened = ap (open_in 0) (sym (append-nil es));
+      ordered = rw (append-nil es) o;
     }
+
+-- "An empty journal is valid."
+pub knows_empty : (bs : Bytes) → Knows bs (known 0 0 0 0) [] []
+unfolding read_to orderly open_in
+knows_empty bs = knows_valid bs 0 0 [] (omega arith) refl refl
 
 -- ---- a segment
 

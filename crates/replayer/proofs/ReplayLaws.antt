@@ -1,16 +1,16 @@
 -- What the lengths and a replay come to is what the exported replay leaves. Assumes nothing.
 use Rattle.std.specs.Prelude.{◌≡◌}
-use Rattle.kit.specs.Names.{sym, ap, ◌∙◌, List, ℕ, length, eq-eqb, ne_eqb}
+use Rattle.kit.specs.Names.{refl, sym, ap, ◌∙◌, Bool, true, false, cond, not, List, ℕ, length, eqb, eq-eqb, ne_eqb}
 use Rattle.rules.specs.Rules.{Rows, Log, table}
 use Rattle.layout.specs.State.{NUMBERS, SERIALS, Sized, state_of, state_numbers, state_serials}
 use Rattle.layout.proofs.LayoutLaws.{numbers_state}
 use Rattle.journal.specs.Entry.{Bytes}
 use Rattle.journal.specs.Replay.{Replayed, replay_bytes}
 use Rattle.admit.specs.Admit.{CARRIED-OUT, NO-STATE, NO-ANSWERS}
-use Rattle.results.specs.Results.{RESULT, result_numbers}
+use Rattle.results.specs.Results.{RESULT, result_numbers, result_admission}
 use Rattle.replaying.specs.Ended.{replayed_by}
 use Rattle.runs.specs.Served.{Host, host, table_of}
-use Rattle.host.specs.Host.{hosted}
+use Rattle.host.specs.Host.{hosted, refuse_host, stateless}
 use Rattle.replayer.specs.Replaying.{replay_served, serve_replay}
 
 -- ---- the lengths of what is lent decide
@@ -35,6 +35,20 @@ module _ (h : Host) (bs : Bytes) (n : ℕ) where
       unfolding serve_replay
       replay_out h' q e w =
           rw (q, w, eq-eqb (length h.numbers) NUMBERS fit, eq-eqb (length h.serials) SERIALS there, eq-eqb (length h.answers) RESULT e)
+
+-- ---- the code that is returned
+
+told : (stateless full : Bool) (h after : Host)
+    → (refuse_host stateless NO-STATE h (refuse_host (not full) NO-ANSWERS h (hosted CARRIED-OUT after))).code
+    ≡ cond stateless NO-STATE (cond full CARRIED-OUT NO-ANSWERS)
+told true full h after = refl
+told false true h after = refl
+told false false h after = refl
+
+-- It is what the lengths of the state and of the result admit, by the rule of all results.
+pub replay_code : (h : Host) (bs : Bytes) → (serve_replay h bs).code ≡ result_admission (length h.numbers) (length h.serials) (length h.answers)
+unfolding serve_replay result_admission
+replay_code h bs = told (stateless h) (eqb (length h.answers) RESULT) h (replay_served h bs)
 
 -- A replay in parts, as what the exported one leaves.
 pub as_served : (h : Host) (bs : Bytes) (ns ss : List ℕ) (rs : Rows) (l : Log) (result : List ℕ) (n place : ℕ) → Sized ns ss
