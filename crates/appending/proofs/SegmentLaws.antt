@@ -4,27 +4,26 @@ use Rattle.kit.specs.Names.{refl, sym, ap, ◌∙◌, Bool, true, false, not, �
 use Rattle.kit.specs.Names.{length, take, sets, ltb, arith, lt-ltb, le-ltb, not-true, not-false}
 use lib.Seq.{sets-eq}
 use Rattle.rules.specs.Rules.{DONE}
-use borrow.Rule.Slice.PartMut.{put_mid}
 use Rattle.journal.specs.Numbers.{ENTRY-BYTES, TRAILER-BYTES}
 use Rattle.journal.specs.Entry.{Bytes}
 use Rattle.journal.specs.Journal.{trailer_bytes, trailer_of, journal_of, valid}
 use Rattle.journal.specs.Append.{Appended, segments_of, fills, segment, declined, append}
 use Rattle.journal.proofs.AppendLaws.{length_segment}
 use Rattle.valid.specs.Place.{segments_told}
-use Rattle.write_entry.proofs.ByteLaws.{then, copied}
+use Rattle.write_entry.proofs.ByteLaws.{then}
 use Rattle.appending.specs.Takes.{takes, fills_by, with_segment}
 use Rattle.appending.proofs.TakesLaws.{filling, taken}
 
 -- The entries, and then the trailer.
-pub segment_written : (bs ys ds entries : Bytes) (used number : ℕ) → ys ≡ entries → fills_by (length entries) ≡ true
+pub segment_written : (bs cs ds entries : Bytes) (used number : ℕ) → cs ≡ sets bs used entries → fills_by (length entries) ≡ true
     → used + length entries + TRAILER-BYTES ≤ length bs
-    → ds ≡ sets (put_mid used (used + length entries - used) bs ys) (used + length entries) (trailer_bytes (trailer_of number (length entries / ENTRY-BYTES)))
+    → ds ≡ sets cs (used + length entries) (trailer_bytes (trailer_of number (length entries / ENTRY-BYTES)))
     → ds ≡ with_segment bs used (segment number entries)
-segment_written bs ys ds entries used number c f room e =
+segment_written bs cs ds entries used number c f room e =
     let trailer = trailer_bytes (trailer_of number (length entries / ENTRY-BYTES)) in
     let whole : 24 * (length entries / 24) ≡ length entries = sym (filling (length entries) f).whole in
     let end = used + length entries in
-    let all = then bs entries trailer used end (copied bs ys entries used end c (omega arith) (omega arith)) refl e in
+    let all = then bs entries trailer used end c refl e in
     let same : entries ++ trailer ≡ segment number entries = rw whole in
     all ∙ ap (sets bs used) same ∙ sets-eq (segment number entries) bs used (omega (arith, length_segment number entries))
 

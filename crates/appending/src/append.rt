@@ -7,6 +7,7 @@ use crate::takes::takes;
 use journal::entry::{ENTRY_BYTES, TRAILER_BYTES};
 use rules::refusal::Refusal;
 use valid::valid::segments;
+use write_entry::bytes::put_bytes;
 use write_entry::entry::put_trailer;
 
 // Entries as the segment of this number.
@@ -15,7 +16,7 @@ fn write_segment(buffer: &mut [u8], used: usize, entries: &[u8], number: usize)
     ensures { buffer.new ≡ with_segment buffer.old used (segment number entries.now) }
 {
     let end = used + entries.len();
-    buffer[used..end].copy_from_slice(entries);
+    put_bytes(buffer, used, entries);
     let count = entries.len() / ENTRY_BYTES;
     put_trailer(buffer, end, number as u32, count as u32);
 }

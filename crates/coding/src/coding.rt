@@ -1,4 +1,4 @@
-ghost use Rattle.std.specs.Prelude.{◌≡◌, true, ◌+◌, ◌≤◌, ◌<◌, length, get_or};
+ghost use Rattle.std.specs.Prelude.{◌≡◌, true, ◌+◌, ◌≤◌, ◌<◌, length, get_or, nat_eq};
 ghost use Rattle.std.specs.List.{list_all};
 ghost use Rattle.coding.specs.Coding.{CODES, FormedAt, is_asked, asked_at, call_at, call_list, is_listed};
 
@@ -107,11 +107,18 @@ fn are_calls(calls: &[[u64; CALL]]) -> bool
     calls.iter().all(is_call)
 }
 
+// Whether no number is left over after the last four.
+fn comes_out_even(rest: &[u64]) -> bool
+    ensures { result ≡ nat_eq (length rest.now) 0 }
+{
+    rest.is_empty()
+}
+
 // Whether a list is one of calls, four numbers to each.
 #[tactic(auto, using(crate::proofs::CodingLaws::none_listed))]
 pub fn all_calls(calls: &[u64]) -> bool
     ensures { result ≡ is_listed (call_list calls.now) }
 {
     let (calls, rest) = calls.as_chunks();
-    rest.is_empty() && are_calls(calls)
+    comes_out_even(rest) && are_calls(calls)
 }

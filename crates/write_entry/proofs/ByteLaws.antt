@@ -1,10 +1,7 @@
 -- Bytes written one after the other. Assumes nothing.
-use Rattle.std.specs.Prelude.{◌≡◌, ◌∷◌, ◌++◌, ◌+◌, ◌-◌, ◌*◌, ◌/◌, ◌≤◌}
+use Rattle.std.specs.Prelude.{◌≡◌, ◌∷◌, ◌++◌, ◌+◌, ◌*◌, ◌/◌}
 use Rattle.std.specs.Int.{w32, w64, to_le_bytes}
-use Rattle.std.proofs.lemmas.List.Edits.{sets-eq}
-use Rattle.std.proofs.lemmas.Slice.{put_mid-paste}
-use borrow.Rule.Slice.PartMut.{put_mid}
-use Rattle.kit.specs.Names.{refl, sym, ap, ◌∙◌, [], ℕ, suc, length, length-append, take, drop, take_all, le_refl, set, sets}
+use Rattle.kit.specs.Names.{ap, ◌∙◌, [], ℕ, suc, length, length-append, set, sets}
 use Rattle.kit.specs.Names.{arith}
 use Rattle.journal.specs.Numbers.{ENTRY-BYTES}
 use Rattle.journal.specs.Entry.{Bytes, little_endian, fields}
@@ -19,22 +16,15 @@ sets_append bs (x ∷ xs) ys at to e = sets_append (set bs at x) xs ys (suc at) 
 pub then : {cs ds : Bytes} (bs xs ys : Bytes) (at to : ℕ) → cs ≡ sets bs at xs → to ≡ at + length xs → ds ≡ sets cs to ys → ds ≡ sets bs at (xs ++ ys)
 then bs xs ys at to e here f = f ∙ ap (λ (b : Bytes). sets b to ys) e ∙ sets_append bs xs ys at to here
 
--- Bytes copied over a part of a list.
-pub copied : (bs ys xs : Bytes) (at end : ℕ) → ys ≡ xs → end - at ≡ length xs → at + length xs ≤ length bs → put_mid at (end - at) bs ys ≡ sets bs at xs
-copied bs ys xs at end e long fits =
-    put_mid-paste at (end - at) bs ys xs (length xs) e (sym long) refl
-    ∙ ap (λ (l : Bytes). take at bs ++ l ++ drop (at + length xs) bs) (take_all (length xs) xs (le_refl (length xs)))
-    ∙ sym (sets-eq xs bs at fits)
-
 -- The library's bytes of a number are those of the rule.
-four : (n : ℕ) → to_le_bytes w32 n ≡ little_endian 4 n
+pub four : (n : ℕ) → to_le_bytes w32 n ≡ little_endian 4 n
 unfolding little_endian
 four n =
     let two : n / 256 / 256 ≡ n / 65536 = omega arith in
     let three : n / 256 / 256 / 256 ≡ n / 16777216 = omega arith in
     rw (three, two)
 
-eight : (n : ℕ) → to_le_bytes w64 n ≡ little_endian 8 n
+pub eight : (n : ℕ) → to_le_bytes w64 n ≡ little_endian 8 n
 unfolding little_endian
 eight n =
     let two : n / 256 / 256 ≡ n / 65536 = omega arith in
@@ -46,10 +36,10 @@ eight n =
     rw (seven, six, five, four, three, two)
 
 -- The library's bytes of a number, written.
-word : {cs ys : Bytes} (bs : Bytes) (at n : ℕ) → cs ≡ sets bs at ys → ys ≡ to_le_bytes w32 n → cs ≡ sets bs at (little_endian 4 n)
+pub word : {cs ys : Bytes} (bs : Bytes) (at n : ℕ) → cs ≡ sets bs at ys → ys ≡ to_le_bytes w32 n → cs ≡ sets bs at (little_endian 4 n)
 word bs at n e y = e ∙ ap (sets bs at) (y ∙ four n)
 
-long : {cs ys : Bytes} (bs : Bytes) (at n : ℕ) → cs ≡ sets bs at ys → ys ≡ to_le_bytes w64 n → cs ≡ sets bs at (little_endian 8 n)
+pub long : {cs ys : Bytes} (bs : Bytes) (at n : ℕ) → cs ≡ sets bs at ys → ys ≡ to_le_bytes w64 n → cs ≡ sets bs at (little_endian 8 n)
 long bs at n e y = e ∙ ap (sets bs at) (y ∙ eight n)
 
 -- ---- numbers one after the other

@@ -3,5 +3,5 @@ use Rattle.appending.proofs.append.write_segment.Goals as goal
 
 pub returns : goal.returns
 returns c =
-    segment_written c.args.buffer.now c.copy_from_slice.new.self c.put_trailer.new.bytes c.args.entries.now c.args.used c.args.number
-    c.copy_from_slice.ensures.after c.requires.filling c.requires.room c.put_trailer.ensures
+    segment_written c.args.buffer.now c.put_bytes.new.bytes c.put_trailer.new.bytes c.args.entries.now c.args.used c.args.number
+    c.put_bytes.ensures c.requires.filling c.requires.room c.put_trailer.ensures
