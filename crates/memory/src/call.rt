@@ -13,7 +13,7 @@ pub fn call_lent(holding: Holding, lent: &mut Lent<'_>, call: Call) -> Changed
     ensures value { left result (table_in lent.new) ≡ called holding.lengths (table_in lent.old holding.state) call }
 {
     call_cut(
-        holding,
+        &holding,
         lent.parents,
         lent.crowns,
         lent.amounts,
@@ -22,9 +22,10 @@ pub fn call_lent(holding: Holding, lent: &mut Lent<'_>, call: Call) -> Changed
     )
 }
 
-// The same of the parts one by one: the checker covers no `Lent` made of parts that are cut off those behind a `&mut Lent`.
+// The same of the parts one by one: the checker covers no `Lent` made of parts that are cut off those behind a `&mut Lent`. The state is
+// lent to both functions, since it is copied wherever it is handed on by value.
 fn call_cut(
-    holding: Holding,
+    holding: &Holding,
     parents: &mut [u32],
     crowns: &mut [u32],
     amounts: &mut [u64],
@@ -33,7 +34,7 @@ fn call_cut(
 ) -> Changed
     ensures { let t = table_lent parents.old crowns.old amounts.old log.old in
         let after = table_lent parents.new crowns.new amounts.new log.new in
-        left result after ≡ called holding.lengths (t holding.state) call }
+        left result after ≡ called holding.now.lengths (t holding.now.state) call }
 {
     let lengths = holding.lengths;
     let a = at_most(lengths.parents, parents.len()) as usize;
@@ -41,7 +42,7 @@ fn call_cut(
     let c = at_most(lengths.amounts, amounts.len()) as usize;
     let d = at_most(lengths.log, log.len()) as usize;
     let answered = call_fronts(
-        holding.state,
+        &holding.state,
         &mut parents[..a],
         &mut crowns[..b],
         &mut amounts[..c],
@@ -50,8 +51,8 @@ fn call_cut(
     );
     Changed {
         holding: Holding {
+            lengths,
             state: answered.state,
-            ..holding
         },
         reply: Reply::Answer(call, answered.answer),
     }
@@ -59,7 +60,7 @@ fn call_cut(
 
 // A call of the table on four parts.
 fn call_fronts(
-    state: State,
+    state: &State,
     parents: &mut [u32],
     crowns: &mut [u32],
     amounts: &mut [u64],
@@ -68,7 +69,7 @@ fn call_fronts(
 ) -> Answered
     ensures { let t = table_lent parents.old crowns.old amounts.old log.old in
         let after = table_lent parents.new crowns.new amounts.new log.new in
-        outcome_of result after ≡ step (t state) call }
+        outcome_of result after ≡ step (t state.now) call }
 {
     let mut lent = Lent {
         parents,
@@ -76,5 +77,5 @@ fn call_fronts(
         amounts,
         log,
     };
-    table::by_value::call(state, &mut lent, call)
+    table::by_value::call(*state, &mut lent, call)
 }

@@ -1,6 +1,6 @@
 ghost use Rattle.std.specs.Prelude.{◌≡◌, ◌≤◌, List, ℕ, ◌<◌, IfOk, OnErr};
 ghost use Rattle.lines.specs.Lines.{line, reached};
-ghost use Rattle.reading.specs.Taking.{beginning, filled, took, taking, line_number, ends_at, next_line};
+ghost use Rattle.reading.specs.Taking.{beginning, reading as reading_of, filled, took, taking, line_number, ends_at, next_line};
 
 use arrays::lengths::nothing;
 use arrays::reply::Holding;
@@ -50,25 +50,32 @@ pub fn read_more<R: Read>(reading: Reading, source: &mut R, input: &mut [u8]) ->
         return Ok(reading);
     }
     let count = source.read(input)?;
-    Ok(Reading {
-        from: 0,
-        count,
-        more: count > 0,
-        ..reading
-    })
+    Ok(anew(reading, count))
 }
 
-// The same, but input that can't be read has ended.
+// The same, but input that can't be read has ended. Not by `read_more`: most lines find input at hand, and a `Result` of a reading costs
+// two copies of it.
 pub fn refill<R: Read>(reading: Reading, source: &mut R, input: &mut [u8]) -> Reading
     ensures value { result ≡ filled reading result.count }
     ensures input_unchanged { reading.from < reading.count → input.new ≡ input.old }
 {
-    read_more(reading, source, input).unwrap_or(Reading {
+    if reading.from < reading.count {
+        return reading;
+    }
+    let count = source.read(input).unwrap_or(0);
+    anew(reading, count)
+}
+
+// With so many bytes at hand, from the input's first on: none where it has ended.
+fn anew(reading: Reading, count: usize) -> Reading
+    ensures { result ≡ reading_of reading count }
+{
+    Reading {
         from: 0,
-        count: 0,
-        more: false,
+        count,
+        more: count > 0,
         ..reading
-    })
+    }
 }
 
 // Both buffers are the caller's, of a fixed size: neither input nor a line makes them grow.
