@@ -1,35 +1,29 @@
 ghost use Rattle.std.specs.Prelude.{◌≡◌};
 ghost use Rattle.rules.specs.Rules.{table_in, table_lent, answered, outcome_of, step, SameParts};
 ghost use Rattle.arrays.specs.declared.reply.Reply.TheVariants as reply;
-ghost use Rattle.arrays.specs.Cut.{left, leaving, called};
+ghost use Rattle.arrays.specs.Cut.{leaving, called};
 
 use arrays::lengths::at_most;
-use arrays::reply::{Changed, Holding, Reply};
+use arrays::reply::Holding;
 use rules::call::{Answer, Call};
 use rules::table::{Lent, State};
 
 // A call of the table on what is lent of the four parts.
-pub fn call_lent(holding: Holding, lent: &mut Lent<'_>, call: Call) -> Changed
+pub fn call_lent(holding: &mut Holding, lent: &mut Lent<'_>, call: Call) -> Answer
     ensures same_parts { SameParts lent.old lent.new }
-    ensures value { left result (table_in lent.new) ≡ called holding.lengths (table_in lent.old holding.state) call }
+    ensures value { leaving (reply.Answer call result) holding.new.lengths (table_in lent.new holding.new.state) ≡ called holding.old.lengths (table_in lent.old holding.old.state) call }
 {
-    let mut after = holding;
-    let answer = call_cut(
-        &mut after,
+    call_cut(
+        holding,
         lent.parents,
         lent.crowns,
         lent.amounts,
         lent.log,
         call,
-    );
-    Changed {
-        holding: after,
-        reply: Reply::Answer(call, answer),
-    }
+    )
 }
 
-// The same of the parts one by one: the checker covers no `Lent` made of parts that are cut off those behind a `&mut Lent`. What is held
-// is lent to this function and the next, since a state that is handed on by value is copied each time.
+// The same of the parts one by one: the checker covers no `Lent` made of parts that are cut off those behind a `&mut Lent`.
 fn call_cut(
     holding: &mut Holding,
     parents: &mut [u32],

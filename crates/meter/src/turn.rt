@@ -44,13 +44,8 @@ fn answer(reading: Reading, lent: &mut Lent<'_>, line: &[u8], out: &mut Output<'
         ≡ answering reading (table_in lent.old) line.now (page_of out.old.page) }
 {
     let command = command_of(line, reading.kept);
-    let changed = change(reading.holding, lent, command);
-    say(
-        out,
-        changed.holding,
-        lent.seen(),
-        changed.reply,
-        reading.line,
-    );
-    next_line(reading, changed.holding)
+    let mut holding = reading.holding;
+    let reply = change(&mut holding, lent, command);
+    say(out, holding, lent.seen(), reply, reading.line);
+    next_line(reading, holding)
 }
