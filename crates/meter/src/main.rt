@@ -23,7 +23,7 @@ fn work<R: Read>(
         if !reading.more {
             break;
         }
-        reading = turn(reading, source, lent, input, line, out);
+        turn(&mut reading, source, lent, input, line, out);
     }
     flush(out);
 }

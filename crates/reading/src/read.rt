@@ -50,48 +50,53 @@ pub fn read_more<R: Read>(reading: Reading, source: &mut R, input: &mut [u8]) ->
         return Ok(reading);
     }
     let count = source.read(input)?;
-    Ok(anew(reading, count))
+    let mut after = reading;
+    start_over(&mut after, count);
+    Ok(after)
 }
 
-// The same, but input that can't be read has ended. Not by `read_more`: most lines find input at hand, and a `Result` of a reading costs
-// two copies of it.
-pub fn refill<R: Read>(reading: Reading, source: &mut R, input: &mut [u8]) -> Reading
-    ensures value { result ≡ filled reading result.count }
-    ensures input_unchanged { reading.from < reading.count → input.new ≡ input.old }
+// The same, but input that can't be read has ended. The reading is lent, here and from line to line: it has a state with all its marks in
+// it, and with copies of it a short line takes twice as long.
+pub fn refill<R: Read>(reading: &mut Reading, source: &mut R, input: &mut [u8])
+    ensures value { reading.new ≡ filled reading.old reading.new.count }
+    ensures input_unchanged { reading.old.from < reading.old.count → input.new ≡ input.old }
 {
     if reading.from < reading.count {
-        return reading;
+        return;
     }
     let count = source.read(input).unwrap_or(0);
-    anew(reading, count)
+    start_over(reading, count);
 }
 
-// With so many bytes at hand, from the input's first on: none where it has ended.
-fn anew(reading: Reading, count: usize) -> Reading
-    ensures { result ≡ reading_of reading count }
+// So much of the input is at hand, none of it read; with nothing at hand it has ended.
+fn start_over(reading: &mut Reading, count: usize)
+    ensures { reading.new ≡ reading_of reading.old count }
 {
-    Reading {
-        from: 0,
-        count,
-        more: count > 0,
-        ..reading
-    }
+    reading.from = 0;
+    reading.count = count;
+    reading.more = count > 0;
 }
 
 // Both buffers are the caller's, of a fixed size: neither input nor a line makes them grow.
 // Gathers bytes of a line. It ends at a line feed, or with the input, if it has begun.
-pub fn take(reading: Reading, input: &[u8], line: &mut [u8]) -> Reading
-    ensures { took result line.new ≡ taking reading line.old input.now }
+pub fn take_into(reading: &mut Reading, input: &[u8], line: &mut [u8])
+    ensures { took reading.new line.new ≡ taking reading.old line.old input.now }
 {
     let got = gather(line, reading.kept, input, reading.from, reading.count);
     let ended = ends(reading.more, got);
-    Reading {
-        line: line_number(reading.line, ended),
-        kept: got.kept,
-        from: got.next,
-        ended,
-        ..reading
-    }
+    reading.line = line_number(reading.line, ended);
+    reading.kept = got.kept;
+    reading.from = got.next;
+    reading.ended = ended;
+}
+
+// The same of a reading by value.
+pub fn take(reading: Reading, input: &[u8], line: &mut [u8]) -> Reading
+    ensures { took result line.new ≡ taking reading line.old input.now }
+{
+    let mut after = reading;
+    take_into(&mut after, input, line);
+    after
 }
 
 fn ends(more: bool, got: Gathered) -> bool
@@ -108,13 +113,9 @@ fn line_number(line: u64, ended: bool) -> u64
 }
 
 // Ready for the next line.
-pub fn next_line(reading: Reading, holding: Holding) -> Reading
-    ensures { result ≡ next_line reading holding }
+pub fn next_line(reading: &mut Reading)
+    ensures { reading.new ≡ next_line reading.old reading.old.holding }
 {
-    Reading {
-        holding,
-        kept: Kept::default(),
-        ended: false,
-        ..reading
-    }
+    reading.kept = Kept::default();
+    reading.ended = false;
 }
