@@ -1,15 +1,15 @@
 ghost use Rattle.std.specs.Prelude.{◌≡◌};
 ghost use Rattle.rules.specs.Rules.{table_in, table_lent, answered, outcome_of, step, SameParts};
 ghost use Rattle.arrays.specs.declared.reply.Reply.TheVariants as reply;
-ghost use Rattle.arrays.specs.Cut.{leaving, called};
+ghost use Rattle.arrays.specs.Cut.{left, leaving, called};
 
 use arrays::lengths::at_most;
-use arrays::reply::Holding;
+use arrays::reply::{Changed, Holding, Reply};
 use rules::call::{Answer, Call};
 use rules::table::{Lent, State};
 
-// A call of the table on what is lent of the four parts.
-pub fn call_lent(holding: &mut Holding, lent: &mut Lent<'_>, call: Call) -> Answer
+// A call of the table on what is lent of the four parts. What is held is lent, since a state that is handed on by value is copied each time.
+pub fn call_in(holding: &mut Holding, lent: &mut Lent<'_>, call: Call) -> Answer
     ensures same_parts { SameParts lent.old lent.new }
     ensures value { leaving (reply.Answer call result) holding.new.lengths (table_in lent.new holding.new.state) ≡ called holding.old.lengths (table_in lent.old holding.old.state) call }
 {
@@ -23,7 +23,20 @@ pub fn call_lent(holding: &mut Holding, lent: &mut Lent<'_>, call: Call) -> Answ
     )
 }
 
-// The same of the parts one by one: the checker covers no `Lent` made of parts that are cut off those behind a `&mut Lent`.
+// The same of what is held by value.
+pub fn call_lent(holding: Holding, lent: &mut Lent<'_>, call: Call) -> Changed
+    ensures same_parts { SameParts lent.old lent.new }
+    ensures value { left result (table_in lent.new) ≡ called holding.lengths (table_in lent.old holding.state) call }
+{
+    let mut after = holding;
+    let answer = call_in(&mut after, lent, call);
+    Changed {
+        holding: after,
+        reply: Reply::Answer(call, answer),
+    }
+}
+
+// `call_in` of the parts one by one: the checker covers no `Lent` made of parts that are cut off those behind a `&mut Lent`.
 fn call_cut(
     holding: &mut Holding,
     parents: &mut [u32],

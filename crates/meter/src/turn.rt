@@ -5,8 +5,8 @@ ghost use Rattle.digits.specs.Page.{SamePage};
 ghost use Rattle.meter.specs.Turn.{page_of, replying, answering, turned, turning};
 
 use lines::line::command_of;
-use memory::change::change;
-use reading::read::{Reading, next_line, refill, take_into};
+use memory::change::change_in;
+use reading::read::{Reading, go_on, refill_into, take_into};
 use rules::table::Lent;
 use say::say::say;
 use show::buffer::Output;
@@ -28,7 +28,7 @@ pub fn turn<R: Read>(
         ≡ turning reading.old (table_in lent.old) line.old (page_of out.old.page) input.new reading.new.count }
     ensures input_unchanged { reading.old.from < reading.old.count → input.new ≡ input.old }
 {
-    refill(reading, source, input);
+    refill_into(reading, source, input);
     take_into(reading, input, line);
     if reading.ended {
         answer(reading, lent, line, out);
@@ -43,7 +43,7 @@ fn answer(reading: &mut Reading, lent: &mut Lent<'_>, line: &[u8], out: &mut Out
         ≡ answering reading.old (table_in lent.old) line.now (page_of out.old.page) }
 {
     let command = command_of(line, reading.kept);
-    let reply = change(&mut reading.holding, lent, command);
+    let reply = change_in(&mut reading.holding, lent, command);
     say(out, reading.holding, lent.seen(), reply, reading.line);
-    next_line(reading);
+    go_on(reading);
 }

@@ -56,8 +56,8 @@ pub fn read_more<R: Read>(reading: Reading, source: &mut R, input: &mut [u8]) ->
 }
 
 // The same, but input that can't be read has ended. The reading is lent, here and from line to line: it has a state with all its marks in
-// it, and with copies of it a short line takes twice as long.
-pub fn refill<R: Read>(reading: &mut Reading, source: &mut R, input: &mut [u8])
+// it, and with copies of it a short line takes twice as long (docs/BENCHMARKS.md, 'The program').
+pub fn refill_into<R: Read>(reading: &mut Reading, source: &mut R, input: &mut [u8])
     ensures value { reading.new ≡ filled reading.old reading.new.count }
     ensures input_unchanged { reading.old.from < reading.old.count → input.new ≡ input.old }
 {
@@ -66,6 +66,16 @@ pub fn refill<R: Read>(reading: &mut Reading, source: &mut R, input: &mut [u8])
     }
     let count = source.read(input).unwrap_or(0);
     start_over(reading, count);
+}
+
+// The same of a reading by value.
+pub fn refill<R: Read>(reading: Reading, source: &mut R, input: &mut [u8]) -> Reading
+    ensures value { result ≡ filled reading result.count }
+    ensures input_unchanged { reading.from < reading.count → input.new ≡ input.old }
+{
+    let mut after = reading;
+    refill_into(&mut after, source, input);
+    after
 }
 
 // So much of the input is at hand, none of it read; with nothing at hand it has ended.
@@ -113,9 +123,19 @@ fn line_number(line: u64, ended: bool) -> u64
 }
 
 // Ready for the next line.
-pub fn next_line(reading: &mut Reading)
+pub fn go_on(reading: &mut Reading)
     ensures { reading.new ≡ next_line reading.old reading.old.holding }
 {
     reading.kept = Kept::default();
     reading.ended = false;
+}
+
+// The same of a reading by value, with what is held from then on.
+pub fn next_line(reading: Reading, holding: Holding) -> Reading
+    ensures { result ≡ next_line reading holding }
+{
+    let mut after = reading;
+    after.holding = holding;
+    go_on(&mut after);
+    after
 }

@@ -7,10 +7,10 @@ use Rattle.meter.proofs.turn.answer.Goals as goal
 pub returns-clause-value : goal.returns-clause-value
 returns-clause-value c =
     let a = c.args in
-    let n = c.change-reply.new.lent in
-    let left : Changed = record { holding = c.change-reply.new.holding; reply = c.change-reply.result } in
+    let n = c.change_in-reply.new.lent in
+    let left : Changed = record { holding = c.change_in-reply.new.holding; reply = c.change_in-reply.result } in
     let s = c.seen.ensures in
     let said = rw (s.parents, s.crowns, s.amounts, s.log) at c.say.ensures.said in
     answered a.reading.now (table_in a.lent.now) a.line.now a.out.now.page.bytes.now a.out.now.page.at
     c.command_of-command.result left (rows_in n) (log_in n) c.say.new.out.page.bytes.now c.say.new.out.page.at
-    c.next_line.new.reading c.command_of-command.ensures c.change-reply.ensures.value said c.next_line.ensures
+    c.go_on.new.reading c.command_of-command.ensures c.change_in-reply.ensures.value said c.go_on.ensures
