@@ -32,7 +32,8 @@ fn far_one(table: GoodTable<'_>, key: u32, call: OneCall) -> Result<FarPlan, Ref
     ensures { let t = table.entry in
         FarPlanned (rows_seen t.seen) (log_seen t.seen) t.head (walk_call (One key call)) result }
 {
-    let Some(first) = trace(table.live(), key) else {
+    let mut trail = idle();
+    let Some(first) = trace(table.live(), key, &mut trail) else {
         return Err(Refusal::BrokenTable);
     };
     let steps = first.steps;
@@ -41,7 +42,7 @@ fn far_one(table: GoodTable<'_>, key: u32, call: OneCall) -> Result<FarPlan, Ref
     let plan = table.fitted(Ok(plan), steps.saturating_sub(1))?;
     Ok(FarPlan {
         plan,
-        first,
+        first: *first,
         second: idle(),
     })
 }
@@ -53,10 +54,11 @@ fn far_two(table: GoodTable<'_>, a: u32, b: u32, call: TwoCall) -> Result<FarPla
         FarPlanned (rows_seen t.seen) (log_seen t.seen) t.head (walk_call (Two a call b)) result }
 {
     let live = table.live();
-    let Some(first) = trace(live, a) else {
+    let mut trail = idle();
+    let Some(first) = trace(live, a, &mut trail) else {
         return Err(Refusal::BrokenTable);
     };
-    let Some(second) = trace_after(live, a, first, b) else {
+    let Some(second) = trace_after(live, a, *first, b) else {
         return Err(Refusal::BrokenTable);
     };
     let from = first.steps;
@@ -72,7 +74,7 @@ fn far_two(table: GoodTable<'_>, a: u32, b: u32, call: TwoCall) -> Result<FarPla
     let plan = table.fitted(verdict, walked)?;
     Ok(FarPlan {
         plan,
-        first,
+        first: *first,
         second,
     })
 }

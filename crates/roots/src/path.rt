@@ -1,4 +1,4 @@
-ghost use Rattle.std.specs.Prelude.{◌≡◌, IfSome};
+ghost use Rattle.std.specs.Prelude.{◌≡◌, IfSome, option_copied};
 ghost use Rattle.rules.specs.Rules.{MAX-REDIRECTS, path};
 ghost use Rattle.roots.specs.Trail.{traced, Short};
 
@@ -12,23 +12,24 @@ pub struct Trail {
     pub nodes: [u32; 17],
 }
 
-// Follows the parents of `key` for at most 16 redirects, and writes nothing.
-pub fn trace(live: Live<'_>, key: u32) -> Option<Trail>
+// Follows the parents of `key` for at most 16 redirects, and writes nothing but the trail that it answers. That one lies with the caller: an
+// `Option<Trail>` was copied out of its `Option` right after its nodes were written, which took as long as a redirect (docs/BENCHMARKS.md).
+pub fn trace<'a>(live: Live<'_>, key: u32, trail: &'a mut Trail) -> Option<&'a Trail>
     ensures result_value { let l = live.entry in
-        traced result ≡ path l.parents.now l.count MAX-REDIRECTS key }
-    ensures short { IfSome result Short }
+        traced (option_copied result) ≡ path l.parents.now l.count MAX-REDIRECTS key }
+    ensures short { IfSome (option_copied result) Short }
 {
     let Live { parents, count } = live;
-    let mut nodes = [0u32; 17];
     let mut at = key;
     for steps in 0..17 {
         if at >= count {
             return None;
         }
-        nodes[steps] = at;
+        trail.nodes[steps] = at;
         let parent = parents[at as usize];
         if parent == at {
-            return Some(Trail { steps, nodes });
+            trail.steps = steps;
+            return Some(trail);
         }
         at = parent;
     }

@@ -3,7 +3,7 @@ use Rattle.std.proofs.Common.{rules}
 use Rattle.std.specs.Prelude.{◌≡◌, Ok, Err}
 use Rattle.kit.specs.Names.{refl, sym, ◌∙◌}
 use Rattle.rules.specs.Rules.{rows_seen, log_seen}
-use Rattle.roots.specs.Trail.{root_of}
+use Rattle.roots.specs.Trail.{root_of, Short}
 use Rattle.roots.proofs.TrailLaws.{trail_root}
 use Rattle.decisions.proofs.GoodLaws.{table_row, live_path}
 use Rattle.far.proofs.FarLaws.{one_lost, one_planned}
@@ -15,7 +15,7 @@ returns-in_default c =
     let t = a.table in
     let v = c.live in
     one_lost (rows_seen t.seen) (log_seen t.seen) t.head t.good a.key c.requires a.call
-    (c.in_default.ensures.result_value ∙ live_path t v.result v.ensures.parents v.ensures.count a.key)
+    ((rw c.in_default.is at c.trace.ensures.result_value) ∙ live_path t v.result v.ensures.parents v.ensures.count a.key)
 
 pub one_plan-plan-requires : goal.one_plan-plan-requires
 one_plan-plan-requires c =
@@ -24,9 +24,10 @@ one_plan-plan-requires c =
     let rs = rows_seen t.seen in
     let f = c.in-Some in
     let v = c.live in
-    let is = f.ensures.result_value ∙ live_path t v.result v.ensures.parents v.ensures.count a.key in
-    table_row t (root_of f.first)
-    (trail_root rs.parents t.head.count f.first a.key is f.ensures.short)
+    let is = (rw f.is at c.trace.ensures.result_value) ∙ live_path t v.result v.ensures.parents v.ensures.count a.key in
+    let short : Short f.first.now = rw f.is at c.trace.ensures.short in
+    table_row t (root_of f.first.now)
+    (trail_root rs.parents t.head.count f.first.now a.key is short)
 
 pub returns-in_err-plan : goal.returns-in_err-plan
 returns-in_err-plan c =
@@ -35,13 +36,14 @@ returns-in_err-plan c =
     let rs = rows_seen t.seen in
     let f = c.in-Some in
     let v = c.live in
-    let is = f.ensures.result_value ∙ live_path t v.result v.ensures.parents v.ensures.count a.key in
+    let is = (rw f.is at c.trace.ensures.result_value) ∙ live_path t v.result v.ensures.parents v.ensures.count a.key in
+    let short : Short f.first.now = rw f.is at c.trace.ensures.short in
     let p = c.one_plan-plan in
-    let root = trail_root rs.parents t.head.count f.first a.key is f.ensures.short in
+    let root = trail_root rs.parents t.head.count f.first.now a.key is short in
     let same : c.from_residual.result ≡ Err c.in_err-plan.field-0.0 = search rules in
     rw same
-    (one_planned rs (log_seen t.seen) t.head t.good a.key c.requires a.call f.first (record { steps = 0; nodes = f.first.nodes })
-    is f.ensures.short (record { steps = refl; size = f.ensures.short.size }) (Ok p.result) _ p.ensures.fact
+    (one_planned rs (log_seen t.seen) t.head t.good a.key c.requires a.call f.first.now (record { steps = 0; nodes = f.first.now.nodes })
+    is short (record { steps = refl; size = short.size }) (Ok p.result) _ p.ensures.fact
     (p.ensures.by_index t.head.count root) _ c.saturating_sub.ensures (sym c.in_err-plan.was ∙ c.fitted.ensures))
 
 pub returns : goal.returns
@@ -51,9 +53,10 @@ returns c =
     let rs = rows_seen t.seen in
     let f = c.in-Some in
     let v = c.live in
-    let is = f.ensures.result_value ∙ live_path t v.result v.ensures.parents v.ensures.count a.key in
+    let is = (rw f.is at c.trace.ensures.result_value) ∙ live_path t v.result v.ensures.parents v.ensures.count a.key in
+    let short : Short f.first.now = rw f.is at c.trace.ensures.short in
     let p = c.one_plan-plan in
-    let root = trail_root rs.parents t.head.count f.first a.key is f.ensures.short in
-    one_planned rs (log_seen t.seen) t.head t.good a.key c.requires a.call f.first c.idle.result is f.ensures.short
+    let root = trail_root rs.parents t.head.count f.first.now a.key is short in
+    one_planned rs (log_seen t.seen) t.head t.good a.key c.requires a.call f.first.now c.idle.result is short
     c.idle.ensures (Ok p.result) (Ok c.in_ok-plan.plan) p.ensures.fact (p.ensures.by_index t.head.count root) _ c.saturating_sub.ensures
     (sym c.in_ok-plan.was ∙ c.fitted.ensures)

@@ -3,7 +3,7 @@ use Rattle.std.specs.Prelude.{◌≡◌, Ok, Err}
 use Rattle.std.proofs.Common.{rules}
 use Rattle.kit.specs.Names.{sym, ◌∙◌}
 use Rattle.rules.specs.Rules.{rows_seen, log_seen}
-use Rattle.roots.specs.Trail.{root_of, compressed}
+use Rattle.roots.specs.Trail.{root_of, compressed, Short}
 use Rattle.roots.proofs.TrailLaws.{trail_root}
 use Rattle.decisions.proofs.GoodLaws.{table_row, live_path, live_after}
 use Rattle.far.proofs.FarLaws.{two_first_lost, two_second_lost, two_planned}
@@ -16,7 +16,7 @@ returns-in_default c =
     let r = c.requires in
     let v = c.live-live in
     two_first_lost (rows_seen t.seen) (log_seen t.seen) t.head t.good a.a a.b r.a_lt_count r.b_lt_count a.call
-    (c.in_default.ensures.result_value ∙ live_path t v.result v.ensures.parents v.ensures.count a.a)
+    ((rw c.in_default.is at c.trace.ensures.result_value) ∙ live_path t v.result v.ensures.parents v.ensures.count a.a)
 
 pub returns-in_default-trace_after : goal.returns-in_default-trace_after
 returns-in_default-trace_after c =
@@ -25,9 +25,10 @@ returns-in_default-trace_after c =
     let r = c.requires in
     let f = c.in-Some in
     let v = c.live-live in
-    let is = f.ensures.result_value ∙ live_path t v.result v.ensures.parents v.ensures.count a.a in
-    two_second_lost (rows_seen t.seen) (log_seen t.seen) t.head t.good a.a a.b r.a_lt_count r.b_lt_count a.call f.first is
-    f.ensures.short (c.in_default-trace_after.ensures.result_value ∙ live_after t v.result v.ensures.parents v.ensures.count a.b f.first)
+    let is = (rw f.is at c.trace.ensures.result_value) ∙ live_path t v.result v.ensures.parents v.ensures.count a.a in
+    let short : Short f.first.now = rw f.is at c.trace.ensures.short in
+    two_second_lost (rows_seen t.seen) (log_seen t.seen) t.head t.good a.a a.b r.a_lt_count r.b_lt_count a.call f.first.now is
+    short (c.in_default-trace_after.ensures.result_value ∙ live_after t v.result v.ensures.parents v.ensures.count a.b f.first.now)
 
 pub two_plan-verdict-requires-clause-in_rows : goal.two_plan-verdict-requires-clause-in_rows
 two_plan-verdict-requires-clause-in_rows c =
@@ -36,9 +37,10 @@ two_plan-verdict-requires-clause-in_rows c =
     let rs = rows_seen t.seen in
     let f = c.in-Some in
     let v = c.live-live in
-    let is = f.ensures.result_value ∙ live_path t v.result v.ensures.parents v.ensures.count a.a in
-    table_row t (root_of f.first)
-    (trail_root rs.parents t.head.count f.first a.a is f.ensures.short)
+    let is = (rw f.is at c.trace.ensures.result_value) ∙ live_path t v.result v.ensures.parents v.ensures.count a.a in
+    let short : Short f.first.now = rw f.is at c.trace.ensures.short in
+    table_row t (root_of f.first.now)
+    (trail_root rs.parents t.head.count f.first.now a.a is short)
 
 pub two_plan-verdict-requires-clause-in_rows_2 : goal.two_plan-verdict-requires-clause-in_rows_2
 two_plan-verdict-requires-clause-in_rows_2 c =
@@ -47,11 +49,12 @@ two_plan-verdict-requires-clause-in_rows_2 c =
     let rs = rows_seen t.seen in
     let f = c.in-Some in
     let v = c.live-live in
-    let is = f.ensures.result_value ∙ live_path t v.result v.ensures.parents v.ensures.count a.a in
+    let is = (rw f.is at c.trace.ensures.result_value) ∙ live_path t v.result v.ensures.parents v.ensures.count a.a in
+    let short : Short f.first.now = rw f.is at c.trace.ensures.short in
     let s = c.in-Some-trace_after in
-    let is-2 = s.ensures.result_value ∙ live_after t v.result v.ensures.parents v.ensures.count a.b f.first in
+    let is-2 = s.ensures.result_value ∙ live_after t v.result v.ensures.parents v.ensures.count a.b f.first.now in
     table_row t (root_of s.second)
-    (trail_root (compressed f.first rs.parents) t.head.count s.second a.b is-2 s.ensures.short_2)
+    (trail_root (compressed f.first.now rs.parents) t.head.count s.second a.b is-2 s.ensures.short_2)
 
 pub returns-in_err-plan : goal.returns-in_err-plan
 returns-in_err-plan c =
@@ -61,15 +64,16 @@ returns-in_err-plan c =
     let rs = rows_seen t.seen in
     let f = c.in-Some in
     let v = c.live-live in
-    let is = f.ensures.result_value ∙ live_path t v.result v.ensures.parents v.ensures.count a.a in
+    let is = (rw f.is at c.trace.ensures.result_value) ∙ live_path t v.result v.ensures.parents v.ensures.count a.a in
+    let short : Short f.first.now = rw f.is at c.trace.ensures.short in
     let s = c.in-Some-trace_after in
-    let is-2 = s.ensures.result_value ∙ live_after t v.result v.ensures.parents v.ensures.count a.b f.first in
+    let is-2 = s.ensures.result_value ∙ live_after t v.result v.ensures.parents v.ensures.count a.b f.first.now in
     let p = c.two_plan-verdict in
-    let root-a = trail_root rs.parents t.head.count f.first a.a is f.ensures.short in
-    let root-b = trail_root (compressed f.first rs.parents) t.head.count s.second a.b is-2 s.ensures.short_2 in
+    let root-a = trail_root rs.parents t.head.count f.first.now a.a is short in
+    let root-b = trail_root (compressed f.first.now rs.parents) t.head.count s.second a.b is-2 s.ensures.short_2 in
     let same : c.from_residual.result ≡ Err c.in_err-plan.field-0.0 = search rules in
     rw same
-    (two_planned rs (log_seen t.seen) t.head t.good a.a a.b r.a_lt_count r.b_lt_count a.call f.first is f.ensures.short
+    (two_planned rs (log_seen t.seen) t.head t.good a.a a.b r.a_lt_count r.b_lt_count a.call f.first.now is short
     s.second is-2 s.ensures.short_2 p.result _ p.ensures.fact (p.ensures.by_index t.head.count root-a root-b)
     _ _ c.saturating_sub.ensures c.saturating_sub-2.ensures (sym c.in_err-plan.was ∙ c.fitted.ensures))
 
@@ -81,12 +85,13 @@ returns c =
     let rs = rows_seen t.seen in
     let f = c.in-Some in
     let v = c.live-live in
-    let is = f.ensures.result_value ∙ live_path t v.result v.ensures.parents v.ensures.count a.a in
+    let is = (rw f.is at c.trace.ensures.result_value) ∙ live_path t v.result v.ensures.parents v.ensures.count a.a in
+    let short : Short f.first.now = rw f.is at c.trace.ensures.short in
     let s = c.in-Some-trace_after in
-    let is-2 = s.ensures.result_value ∙ live_after t v.result v.ensures.parents v.ensures.count a.b f.first in
+    let is-2 = s.ensures.result_value ∙ live_after t v.result v.ensures.parents v.ensures.count a.b f.first.now in
     let p = c.two_plan-verdict in
-    let root-a = trail_root rs.parents t.head.count f.first a.a is f.ensures.short in
-    let root-b = trail_root (compressed f.first rs.parents) t.head.count s.second a.b is-2 s.ensures.short_2 in
-    two_planned rs (log_seen t.seen) t.head t.good a.a a.b r.a_lt_count r.b_lt_count a.call f.first is f.ensures.short
+    let root-a = trail_root rs.parents t.head.count f.first.now a.a is short in
+    let root-b = trail_root (compressed f.first.now rs.parents) t.head.count s.second a.b is-2 s.ensures.short_2 in
+    two_planned rs (log_seen t.seen) t.head t.good a.a a.b r.a_lt_count r.b_lt_count a.call f.first.now is short
     s.second is-2 s.ensures.short_2 p.result (Ok c.in_ok-plan.plan) p.ensures.fact (p.ensures.by_index t.head.count root-a root-b)
     _ _ c.saturating_sub.ensures c.saturating_sub-2.ensures (sym c.in_ok-plan.was ∙ c.fitted.ensures)

@@ -6,4 +6,4 @@ use Rattle.roots.proofs.path.trace.Given as goal
 
 abbrev pub invariant-loop-steps : goal.invariant-loop-steps
 invariant-loop-steps l =
-    (length l.nodes ≡ 17) × (path l.parents l.count 16 l.key ≡ along (take l.steps l.nodes) (ahead l.parents l.count l.steps l.at))
+    (length l.trail.nodes ≡ 17) × (path l.parents l.count 16 l.key ≡ along (take l.steps l.trail.nodes) (ahead l.parents l.count l.steps l.at))
