@@ -1,9 +1,9 @@
 // Document 02, Q-1: "Rollback and commit act on the innermost."
-ghost use Rattle.std.specs.Prelude.{◌≡◌, ◌-◌, ◌≤◌};
+ghost use Rattle.std.specs.Prelude.{◌≡◌, ◌-◌, ◌≤◌, None};
 ghost use Rattle.rules.specs.Rules.{MAX-OPEN, mark_at};
 ghost use Rattle.layout.specs.Lent.{state_under};
-ghost use Rattle.journal.specs.Replay.{call_for};
-ghost use Rattle.entry_calls.specs.Ready.{ready_for};
+ghost use Rattle.undo_log.specs.Settled.{mark_for};
+ghost use Rattle.entry_calls.specs.Ready.{ready, ready_for};
 
 use journal::entry::Entry;
 use layout::state::LentState;
@@ -27,30 +27,42 @@ fn innermost(state: &LentState<'_>, head: Head) -> Mark
     state.mark((head.open as usize).saturating_sub(1))
 }
 
-// The call that an entry is, in a table with this state.
-fn call_for(state: &LentState<'_>, head: Head, entry: Entry) -> Call
-    requires { head.«open» ≤ MAX-OPEN }
-    ensures { result ≡ call_for (state_under head state.now) entry }
+// A call that is about no mark.
+fn markless(call: Call) -> Ready
+    ensures { result ≡ ready call None }
 {
-    match entry {
-        Entry::EntryNew(owner, amount) => Call::New(owner, amount),
-        Entry::EntryPost(key, owner, amount) => Call::Post(key, owner, amount),
-        Entry::EntryJoin(a, b) => Call::Join(a, b),
-        Entry::EntrySnapshot => Call::Snapshot,
-        Entry::EntryRollback => Call::Rollback(innermost(state, head).serial),
-        Entry::EntryCommit => Call::Commit(innermost(state, head).serial),
-        Entry::NoEntry => Call::Len,
+    Ready { call, sought: None }
+}
+
+// A call that closes a snapshot.
+fn closing(state: &LentState<'_>, head: Head, call: Call) -> Ready
+    ensures { result ≡ ready call (mark_for (state_under head state.now) call) }
+{
+    Ready {
+        call,
+        sought: mark_under(state, head, call),
     }
 }
 
-// The same, with the mark that it is about.
+// The call that an entry is, in a table with this state, and the mark that it is about. Both are made where the entry's kind is told: of a
+// mark that is looked for by the finished call, the compiled code tells the kind once more (docs/BENCHMARKS.md).
 pub fn ready_for(state: &LentState<'_>, head: Head, entry: Entry) -> Ready
     requires { head.«open» ≤ MAX-OPEN }
     ensures { result ≡ ready_for (state_under head state.now) entry }
 {
-    let call = call_for(state, head, entry);
-    Ready {
-        call,
-        sought: mark_under(state, head, call),
+    match entry {
+        Entry::EntryNew(owner, amount) => markless(Call::New(owner, amount)),
+        Entry::EntryPost(key, owner, amount) => markless(Call::Post(key, owner, amount)),
+        Entry::EntryJoin(a, b) => markless(Call::Join(a, b)),
+        Entry::EntrySnapshot => markless(Call::Snapshot),
+        Entry::EntryRollback => {
+            let call = Call::Rollback(innermost(state, head).serial);
+            closing(state, head, call)
+        }
+        Entry::EntryCommit => {
+            let call = Call::Commit(innermost(state, head).serial);
+            closing(state, head, call)
+        }
+        Entry::NoEntry => markless(Call::Len),
     }
 }
