@@ -16,8 +16,8 @@ use roots::path::{Trail, trace};
 use rules::refusal::Refusal;
 use two_walks::plan::two_plan;
 
-// A trail that leads nowhere, for the second walk of a call that walks once. No `Option`: a trail of no steps is carried out as any
-// other is, and rewrites nothing.
+// A trail that leads nowhere, for the second walk of a call that walks once, and for a walk to be traced into. No `Option`: a trail of no
+// steps is carried out as any other is, and rewrites nothing.
 fn idle() -> Trail
     ensures { Idle result }
 {
@@ -54,11 +54,12 @@ fn far_two(table: GoodTable<'_>, a: u32, b: u32, call: TwoCall) -> Result<FarPla
         FarPlanned (rows_seen t.seen) (log_seen t.seen) t.head (walk_call (Two a call b)) result }
 {
     let live = table.live();
-    let mut trail = idle();
-    let Some(first) = trace(live, a, &mut trail) else {
+    let mut from_a = idle();
+    let mut from_b = idle();
+    let Some(first) = trace(live, a, &mut from_a) else {
         return Err(Refusal::BrokenTable);
     };
-    let Some(second) = trace_after(live, a, *first, b) else {
+    let Some(second) = trace_after(live, a, *first, b, &mut from_b) else {
         return Err(Refusal::BrokenTable);
     };
     let from = first.steps;
@@ -75,7 +76,7 @@ fn far_two(table: GoodTable<'_>, a: u32, b: u32, call: TwoCall) -> Result<FarPla
     Ok(FarPlan {
         plan,
         first: *first,
-        second,
+        second: *second,
     })
 }
 

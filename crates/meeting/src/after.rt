@@ -1,4 +1,4 @@
-ghost use Rattle.std.specs.Prelude.{◌≡◌, Some, IfSome};
+ghost use Rattle.std.specs.Prelude.{◌≡◌, Some, IfSome, option_copied};
 ghost use Rattle.rules.specs.Rules.{MAX-REDIRECTS, path};
 ghost use Rattle.roots.specs.Trail.{traced, Short, compressed};
 
@@ -6,24 +6,30 @@ use roots::live::Live;
 use roots::path::Trail;
 
 // The trail of `key` in the table as a walk from `a` along `first` leaves it, before that walk is made. From the first node that
-// lies on `first` it is one redirect to the root, or none where that node is the root.
-pub fn trace_after(live: Live<'_>, a: u32, first: Trail, key: u32) -> Option<Trail>
+// lies on `first` it is one redirect to the root, or none where that node is the root. It is told in the trail that is lent, as in
+// `roots::path::trace`.
+pub fn trace_after<'a>(
+    live: Live<'_>,
+    a: u32,
+    first: Trail,
+    key: u32,
+    trail: &'a mut Trail,
+) -> Option<&'a Trail>
     requires first_value { traced (Some first) ≡ path live.parents.now live.count MAX-REDIRECTS a }
     requires short { Short first }
     ensures result_value { let l = live.entry in
-        traced result ≡ path (compressed first l.parents.now) l.count MAX-REDIRECTS key }
-    ensures short_2 { IfSome result Short }
+        traced (option_copied result) ≡ path (compressed first l.parents.now) l.count MAX-REDIRECTS key }
+    ensures short_2 { IfSome (option_copied result) Short }
 {
     let Live { parents, count } = live;
     let passed = &first.nodes[..first.steps];
     let root = first.nodes[first.steps];
-    let mut nodes = [0u32; 17];
     let mut steps: usize = 0;
     let mut at = key;
     // Nested loops, left by a label at the first meeting: document 01's form of "the first node of the second path that lies on the
     // first". A `for` would not keep `steps` past the label.
     'walk: while at < count {
-        nodes[steps] = at;
+        trail.nodes[steps] = at;
         for node in passed {
             if *node == at {
                 break 'walk;
@@ -31,7 +37,8 @@ pub fn trace_after(live: Live<'_>, a: u32, first: Trail, key: u32) -> Option<Tra
         }
         let parent = parents[at as usize];
         if parent == at {
-            return Some(Trail { steps, nodes });
+            trail.steps = steps;
+            return Some(trail);
         }
         if steps == 16 {
             return None;
@@ -43,6 +50,7 @@ pub fn trace_after(live: Live<'_>, a: u32, first: Trail, key: u32) -> Option<Tra
         return None;
     }
     steps += 1;
-    nodes[steps] = root;
-    Some(Trail { steps, nodes })
+    trail.nodes[steps] = root;
+    trail.steps = steps;
+    Some(trail)
 }

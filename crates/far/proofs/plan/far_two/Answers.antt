@@ -28,7 +28,7 @@ returns-in_default-trace_after c =
     let is = (rw f.is at c.trace.ensures.result_value) ∙ live_path t v.result v.ensures.parents v.ensures.count a.a in
     let short : Short f.first.now = rw f.is at c.trace.ensures.short in
     two_second_lost (rows_seen t.seen) (log_seen t.seen) t.head t.good a.a a.b r.a_lt_count r.b_lt_count a.call f.first.now is
-    short (c.in_default-trace_after.ensures.result_value ∙ live_after t v.result v.ensures.parents v.ensures.count a.b f.first.now)
+    short ((rw c.in_default-trace_after.is at c.trace_after.ensures.result_value) ∙ live_after t v.result v.ensures.parents v.ensures.count a.b f.first.now)
 
 pub two_plan-verdict-requires-clause-in_rows : goal.two_plan-verdict-requires-clause-in_rows
 two_plan-verdict-requires-clause-in_rows c =
@@ -52,9 +52,10 @@ two_plan-verdict-requires-clause-in_rows_2 c =
     let is = (rw f.is at c.trace.ensures.result_value) ∙ live_path t v.result v.ensures.parents v.ensures.count a.a in
     let short : Short f.first.now = rw f.is at c.trace.ensures.short in
     let s = c.in-Some-trace_after in
-    let is-2 = s.ensures.result_value ∙ live_after t v.result v.ensures.parents v.ensures.count a.b f.first.now in
-    table_row t (root_of s.second)
-    (trail_root (compressed f.first.now rs.parents) t.head.count s.second a.b is-2 s.ensures.short_2)
+    let is-2 = (rw s.is at c.trace_after.ensures.result_value) ∙ live_after t v.result v.ensures.parents v.ensures.count a.b f.first.now in
+    let short-2 : Short s.second.now = rw s.is at c.trace_after.ensures.short_2 in
+    table_row t (root_of s.second.now)
+    (trail_root (compressed f.first.now rs.parents) t.head.count s.second.now a.b is-2 short-2)
 
 pub returns-in_err-plan : goal.returns-in_err-plan
 returns-in_err-plan c =
@@ -67,14 +68,15 @@ returns-in_err-plan c =
     let is = (rw f.is at c.trace.ensures.result_value) ∙ live_path t v.result v.ensures.parents v.ensures.count a.a in
     let short : Short f.first.now = rw f.is at c.trace.ensures.short in
     let s = c.in-Some-trace_after in
-    let is-2 = s.ensures.result_value ∙ live_after t v.result v.ensures.parents v.ensures.count a.b f.first.now in
+    let is-2 = (rw s.is at c.trace_after.ensures.result_value) ∙ live_after t v.result v.ensures.parents v.ensures.count a.b f.first.now in
+    let short-2 : Short s.second.now = rw s.is at c.trace_after.ensures.short_2 in
     let p = c.two_plan-verdict in
     let root-a = trail_root rs.parents t.head.count f.first.now a.a is short in
-    let root-b = trail_root (compressed f.first.now rs.parents) t.head.count s.second a.b is-2 s.ensures.short_2 in
+    let root-b = trail_root (compressed f.first.now rs.parents) t.head.count s.second.now a.b is-2 short-2 in
     let same : c.from_residual.result ≡ Err c.in_err-plan.field-0.0 = search rules in
     rw same
     (two_planned rs (log_seen t.seen) t.head t.good a.a a.b r.a_lt_count r.b_lt_count a.call f.first.now is short
-    s.second is-2 s.ensures.short_2 p.result _ p.ensures.fact (p.ensures.by_index t.head.count root-a root-b)
+    s.second.now is-2 short-2 p.result _ p.ensures.fact (p.ensures.by_index t.head.count root-a root-b)
     _ _ c.saturating_sub.ensures c.saturating_sub-2.ensures (sym c.in_err-plan.was ∙ c.fitted.ensures))
 
 pub returns : goal.returns
@@ -88,10 +90,11 @@ returns c =
     let is = (rw f.is at c.trace.ensures.result_value) ∙ live_path t v.result v.ensures.parents v.ensures.count a.a in
     let short : Short f.first.now = rw f.is at c.trace.ensures.short in
     let s = c.in-Some-trace_after in
-    let is-2 = s.ensures.result_value ∙ live_after t v.result v.ensures.parents v.ensures.count a.b f.first.now in
+    let is-2 = (rw s.is at c.trace_after.ensures.result_value) ∙ live_after t v.result v.ensures.parents v.ensures.count a.b f.first.now in
+    let short-2 : Short s.second.now = rw s.is at c.trace_after.ensures.short_2 in
     let p = c.two_plan-verdict in
     let root-a = trail_root rs.parents t.head.count f.first.now a.a is short in
-    let root-b = trail_root (compressed f.first.now rs.parents) t.head.count s.second a.b is-2 s.ensures.short_2 in
+    let root-b = trail_root (compressed f.first.now rs.parents) t.head.count s.second.now a.b is-2 short-2 in
     two_planned rs (log_seen t.seen) t.head t.good a.a a.b r.a_lt_count r.b_lt_count a.call f.first.now is short
-    s.second is-2 s.ensures.short_2 p.result (Ok c.in_ok-plan.plan) p.ensures.fact (p.ensures.by_index t.head.count root-a root-b)
+    s.second.now is-2 short-2 p.result (Ok c.in_ok-plan.plan) p.ensures.fact (p.ensures.by_index t.head.count root-a root-b)
     _ _ c.saturating_sub.ensures c.saturating_sub-2.ensures (sym c.in_ok-plan.was ∙ c.fitted.ensures)

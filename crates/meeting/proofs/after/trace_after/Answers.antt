@@ -10,7 +10,7 @@ returns-then-parent-at-clause-result_value c =
     let v = a.live in
     let r = c.requires in
     let w = c.walk in
-    after_root v.parents.now v.count a.a a.first v.inside r.first_value a.key w.at w.steps w.nodes w.invariant.0 w.invariant.1 w.invariant.2
+    after_root v.parents.now v.count a.a a.first v.inside r.first_value a.key w.at w.steps w.trail.nodes w.invariant.0 w.invariant.1 w.invariant.2
     c.walk-test.true (λ i lt. c.loop-node.invariant i (omega (arith, lt, c.loop-node-test.false))) c.if-parent-at.true
 
 pub returns-then-steps-eq16-clause-result_value : goal.returns-then-steps-eq16-clause-result_value
@@ -19,7 +19,7 @@ returns-then-steps-eq16-clause-result_value c =
     let v = a.live in
     let r = c.requires in
     let w = c.walk in
-    after_spent v.parents.now v.count a.a a.first v.inside r.first_value a.key w.at w.steps w.nodes w.invariant.0 w.invariant.1 w.invariant.2
+    after_spent v.parents.now v.count a.a a.first v.inside r.first_value a.key w.at w.steps w.trail.nodes w.invariant.0 w.invariant.1 w.invariant.2
     c.walk-test.true (λ i lt. c.loop-node.invariant i (omega (arith, lt, c.loop-node-test.false))) c.if-parent-at.false c.if-steps-eq16.true
 
 pub walk-preserved : goal.walk-preserved
@@ -29,8 +29,8 @@ walk-preserved c =
     let r = c.requires in
     let w = c.walk in (
       omega (arith, c.if-steps-eq16.false),
-      length-set w.nodes w.steps w.at ∙ w.invariant.1,
-      after_more v.parents.now v.count a.a a.first v.inside r.first_value a.key w.at w.steps w.nodes w.invariant.0 w.invariant.1 w.invariant.2
+      length-set w.trail.nodes w.steps w.at ∙ w.invariant.1,
+      after_more v.parents.now v.count a.a a.first v.inside r.first_value a.key w.at w.steps w.trail.nodes w.invariant.0 w.invariant.1 w.invariant.2
           c.walk-test.true (λ i lt. c.loop-node.invariant i (omega (arith, lt, c.loop-node-test.false))) c.if-parent-at.false
           c.if-steps-eq16.false,
     )
@@ -43,12 +43,12 @@ returns-then-at-count-clause-result_value c =
     let w = c.walk in
     elim c.then-at-count.branch [
       | then-at-count-via-then-at-count d ↦
-          after_out v.parents.now v.count a.a a.first v.inside r.first_value a.key w.at w.steps w.nodes w.invariant.0 w.invariant.1 w.invariant.2
+          after_out v.parents.now v.count a.a a.first v.inside r.first_value a.key w.at w.steps w.trail.nodes w.invariant.0 w.invariant.1 w.invariant.2
           d.if-at-count.true
       | then-at-count-via-else-at-count+then-steps-eq16-2 d ↦ elim c.walk-test.branch [
         | else-walk-test b ↦ absurd (omega (arith, b.walk-test.false, d.if-at-count.false))
         | then-walk-test+then-loop-node-test+then-node-at b ↦
-            on_spent v.parents.now v.count a.a a.first v.inside r.first_value a.key w.at w.steps w.nodes w.invariant.0 w.invariant.1
+            on_spent v.parents.now v.count a.a a.first v.inside r.first_value a.key w.at w.steps w.trail.nodes w.invariant.0 w.invariant.1
             w.invariant.2 d.if-at-count.false b.loop-node.node-index b.loop-node-test.true b.if-node-at.true d.if-steps-eq16-2.true
       ]
     ]
@@ -62,7 +62,7 @@ returns-clause-result_value c =
     elim c.walk-test.branch [
       | else-walk-test b ↦ absurd (omega (arith, b.walk-test.false, c.if-at-count.false))
       | then-walk-test+then-loop-node-test+then-node-at b ↦
-          rw b.nodes-is
-          (on_more v.parents.now v.count a.a a.first v.inside r.first_value a.key w.at w.steps w.nodes w.invariant.0 w.invariant.1
+          rw b.trail-is
+          (on_more v.parents.now v.count a.a a.first v.inside r.first_value a.key w.at w.steps w.trail.nodes w.invariant.0 w.invariant.1
           w.invariant.2 c.if-at-count.false b.loop-node.node-index b.loop-node-test.true b.if-node-at.true c.if-steps-eq16-2.false)
     ]

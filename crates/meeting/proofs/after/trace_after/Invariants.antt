@@ -9,9 +9,9 @@ use Rattle.meeting.proofs.after.trace_after.Given as goal
 abbrev pub invariant-walk : goal.invariant-walk
 invariant-walk l =
     (l.steps ≤ 16)
-    × (length l.nodes ≡ 17)
+    × (length l.trail.nodes ≡ 17)
     × (path (compress l.root l.passed l.parents) l.count 16 l.key
-    ≡ along (take l.steps l.nodes) (path (compress l.root l.passed l.parents) l.count (16 - l.steps) l.at))
+    ≡ along (take l.steps l.trail.nodes) (path (compress l.root l.passed l.parents) l.count (16 - l.steps) l.at))
 
 abbrev pub decreases-walk : goal.decreases-walk
 decreases-walk l = 16 - l.steps
