@@ -9,10 +9,10 @@ ghost use Rattle.decisions.specs.declared.sorted.WalkCall.TheVariants.{One, Two}
 use decisions::decision::FarPlan;
 use decisions::good::GoodTable;
 use decisions::sorted::WalkCall;
-use meeting::after::trace_after;
+use meeting::after::trace_after_into;
 use one_walk::plan::one_plan;
 use plans::verdict::{OneCall, TwoCall};
-use roots::path::{Trail, trace};
+use roots::path::{Trail, trace_into};
 use rules::refusal::Refusal;
 use two_walks::plan::two_plan;
 
@@ -33,7 +33,7 @@ fn far_one(table: GoodTable<'_>, key: u32, call: OneCall) -> Result<FarPlan, Ref
         FarPlanned (rows_seen t.seen) (log_seen t.seen) t.head (walk_call (One key call)) result }
 {
     let mut trail = idle();
-    let Some(first) = trace(table.live(), key, &mut trail) else {
+    let Some(first) = trace_into(table.live(), key, &mut trail) else {
         return Err(Refusal::BrokenTable);
     };
     let steps = first.steps;
@@ -56,10 +56,10 @@ fn far_two(table: GoodTable<'_>, a: u32, b: u32, call: TwoCall) -> Result<FarPla
     let live = table.live();
     let mut from_a = idle();
     let mut from_b = idle();
-    let Some(first) = trace(live, a, &mut from_a) else {
+    let Some(first) = trace_into(live, a, &mut from_a) else {
         return Err(Refusal::BrokenTable);
     };
-    let Some(second) = trace_after(live, a, *first, b, &mut from_b) else {
+    let Some(second) = trace_after_into(live, a, *first, b, &mut from_b) else {
         return Err(Refusal::BrokenTable);
     };
     let from = first.steps;

@@ -7,8 +7,8 @@ use roots::path::Trail;
 
 // The trail of `key` in the table as a walk from `a` along `first` leaves it, before that walk is made. From the first node that
 // lies on `first` it is one redirect to the root, or none where that node is the root. It is told in the trail that is lent, as in
-// `roots::path::trace`.
-pub fn trace_after<'a>(
+// `roots::path::trace_into`.
+pub fn trace_after_into<'a>(
     live: Live<'_>,
     a: u32,
     first: Trail,
@@ -53,4 +53,19 @@ pub fn trace_after<'a>(
     trail.nodes[steps] = root;
     trail.steps = steps;
     Some(trail)
+}
+
+// The same by value.
+pub fn trace_after(live: Live<'_>, a: u32, first: Trail, key: u32) -> Option<Trail>
+    requires first_value { traced (Some first) ≡ path live.parents.now live.count MAX-REDIRECTS a }
+    requires short { Short first }
+    ensures result_value { let l = live.entry in
+        traced result ≡ path (compressed first l.parents.now) l.count MAX-REDIRECTS key }
+    ensures short_2 { IfSome result Short }
+{
+    let mut trail = Trail {
+        steps: 0,
+        nodes: [0; 17],
+    };
+    trace_after_into(live, a, first, key, &mut trail).copied()
 }

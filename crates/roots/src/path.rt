@@ -14,7 +14,7 @@ pub struct Trail {
 
 // Follows the parents of `key` for at most 16 redirects, and writes nothing but the trail that it answers. That one lies with the caller: an
 // `Option<Trail>` was copied out of its `Option` right after its nodes were written, which took as long as a redirect (docs/BENCHMARKS.md).
-pub fn trace<'a>(live: Live<'_>, key: u32, trail: &'a mut Trail) -> Option<&'a Trail>
+pub fn trace_into<'a>(live: Live<'_>, key: u32, trail: &'a mut Trail) -> Option<&'a Trail>
     ensures result_value { let l = live.entry in
         traced (option_copied result) ≡ path l.parents.now l.count MAX-REDIRECTS key }
     ensures short { IfSome (option_copied result) Short }
@@ -34,4 +34,17 @@ pub fn trace<'a>(live: Live<'_>, key: u32, trail: &'a mut Trail) -> Option<&'a T
         at = parent;
     }
     None
+}
+
+// The same by value.
+pub fn trace(live: Live<'_>, key: u32) -> Option<Trail>
+    ensures result_value { let l = live.entry in
+        traced result ≡ path l.parents.now l.count MAX-REDIRECTS key }
+    ensures short { IfSome result Short }
+{
+    let mut trail = Trail {
+        steps: 0,
+        nodes: [0; 17],
+    };
+    trace_into(live, key, &mut trail).copied()
 }

@@ -15,7 +15,7 @@ returns-in_default c =
     let t = a.table in
     let v = c.live in
     one_lost (rows_seen t.seen) (log_seen t.seen) t.head t.good a.key c.requires a.call
-    ((rw c.in_default.is at c.trace.ensures.result_value) ∙ live_path t v.result v.ensures.parents v.ensures.count a.key)
+    ((rw c.in_default.is at c.trace_into.ensures.result_value) ∙ live_path t v.result v.ensures.parents v.ensures.count a.key)
 
 pub one_plan-plan-requires : goal.one_plan-plan-requires
 one_plan-plan-requires c =
@@ -24,8 +24,8 @@ one_plan-plan-requires c =
     let rs = rows_seen t.seen in
     let f = c.in-Some in
     let v = c.live in
-    let is = (rw f.is at c.trace.ensures.result_value) ∙ live_path t v.result v.ensures.parents v.ensures.count a.key in
-    let short : Short f.first.now = rw f.is at c.trace.ensures.short in
+    let is = (rw f.is at c.trace_into.ensures.result_value) ∙ live_path t v.result v.ensures.parents v.ensures.count a.key in
+    let short : Short f.first.now = rw f.is at c.trace_into.ensures.short in
     table_row t (root_of f.first.now)
     (trail_root rs.parents t.head.count f.first.now a.key is short)
 
@@ -36,8 +36,8 @@ returns-in_err-plan c =
     let rs = rows_seen t.seen in
     let f = c.in-Some in
     let v = c.live in
-    let is = (rw f.is at c.trace.ensures.result_value) ∙ live_path t v.result v.ensures.parents v.ensures.count a.key in
-    let short : Short f.first.now = rw f.is at c.trace.ensures.short in
+    let is = (rw f.is at c.trace_into.ensures.result_value) ∙ live_path t v.result v.ensures.parents v.ensures.count a.key in
+    let short : Short f.first.now = rw f.is at c.trace_into.ensures.short in
     let p = c.one_plan-plan in
     let root = trail_root rs.parents t.head.count f.first.now a.key is short in
     let same : c.from_residual.result ≡ Err c.in_err-plan.field-0.0 = search rules in
@@ -53,8 +53,8 @@ returns c =
     let rs = rows_seen t.seen in
     let f = c.in-Some in
     let v = c.live in
-    let is = (rw f.is at c.trace.ensures.result_value) ∙ live_path t v.result v.ensures.parents v.ensures.count a.key in
-    let short : Short f.first.now = rw f.is at c.trace.ensures.short in
+    let is = (rw f.is at c.trace_into.ensures.result_value) ∙ live_path t v.result v.ensures.parents v.ensures.count a.key in
+    let short : Short f.first.now = rw f.is at c.trace_into.ensures.short in
     let p = c.one_plan-plan in
     let root = trail_root rs.parents t.head.count f.first.now a.key is short in
     one_planned rs (log_seen t.seen) t.head t.good a.key c.requires a.call f.first.now c.idle.result is short

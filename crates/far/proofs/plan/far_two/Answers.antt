@@ -16,19 +16,19 @@ returns-in_default c =
     let r = c.requires in
     let v = c.live-live in
     two_first_lost (rows_seen t.seen) (log_seen t.seen) t.head t.good a.a a.b r.a_lt_count r.b_lt_count a.call
-    ((rw c.in_default.is at c.trace.ensures.result_value) ∙ live_path t v.result v.ensures.parents v.ensures.count a.a)
+    ((rw c.in_default.is at c.trace_into.ensures.result_value) ∙ live_path t v.result v.ensures.parents v.ensures.count a.a)
 
-pub returns-in_default-trace_after : goal.returns-in_default-trace_after
-returns-in_default-trace_after c =
+pub returns-in_default-trace_after_into : goal.returns-in_default-trace_after_into
+returns-in_default-trace_after_into c =
     let a = c.args in
     let t = a.table in
     let r = c.requires in
     let f = c.in-Some in
     let v = c.live-live in
-    let is = (rw f.is at c.trace.ensures.result_value) ∙ live_path t v.result v.ensures.parents v.ensures.count a.a in
-    let short : Short f.first.now = rw f.is at c.trace.ensures.short in
+    let is = (rw f.is at c.trace_into.ensures.result_value) ∙ live_path t v.result v.ensures.parents v.ensures.count a.a in
+    let short : Short f.first.now = rw f.is at c.trace_into.ensures.short in
     two_second_lost (rows_seen t.seen) (log_seen t.seen) t.head t.good a.a a.b r.a_lt_count r.b_lt_count a.call f.first.now is
-    short ((rw c.in_default-trace_after.is at c.trace_after.ensures.result_value) ∙ live_after t v.result v.ensures.parents v.ensures.count a.b f.first.now)
+    short ((rw c.in_default-trace_after_into.is at c.trace_after_into.ensures.result_value) ∙ live_after t v.result v.ensures.parents v.ensures.count a.b f.first.now)
 
 pub two_plan-verdict-requires-clause-in_rows : goal.two_plan-verdict-requires-clause-in_rows
 two_plan-verdict-requires-clause-in_rows c =
@@ -37,8 +37,8 @@ two_plan-verdict-requires-clause-in_rows c =
     let rs = rows_seen t.seen in
     let f = c.in-Some in
     let v = c.live-live in
-    let is = (rw f.is at c.trace.ensures.result_value) ∙ live_path t v.result v.ensures.parents v.ensures.count a.a in
-    let short : Short f.first.now = rw f.is at c.trace.ensures.short in
+    let is = (rw f.is at c.trace_into.ensures.result_value) ∙ live_path t v.result v.ensures.parents v.ensures.count a.a in
+    let short : Short f.first.now = rw f.is at c.trace_into.ensures.short in
     table_row t (root_of f.first.now)
     (trail_root rs.parents t.head.count f.first.now a.a is short)
 
@@ -49,11 +49,11 @@ two_plan-verdict-requires-clause-in_rows_2 c =
     let rs = rows_seen t.seen in
     let f = c.in-Some in
     let v = c.live-live in
-    let is = (rw f.is at c.trace.ensures.result_value) ∙ live_path t v.result v.ensures.parents v.ensures.count a.a in
-    let short : Short f.first.now = rw f.is at c.trace.ensures.short in
-    let s = c.in-Some-trace_after in
-    let is-2 = (rw s.is at c.trace_after.ensures.result_value) ∙ live_after t v.result v.ensures.parents v.ensures.count a.b f.first.now in
-    let short-2 : Short s.second.now = rw s.is at c.trace_after.ensures.short_2 in
+    let is = (rw f.is at c.trace_into.ensures.result_value) ∙ live_path t v.result v.ensures.parents v.ensures.count a.a in
+    let short : Short f.first.now = rw f.is at c.trace_into.ensures.short in
+    let s = c.in-Some-trace_after_into in
+    let is-2 = (rw s.is at c.trace_after_into.ensures.result_value) ∙ live_after t v.result v.ensures.parents v.ensures.count a.b f.first.now in
+    let short-2 : Short s.second.now = rw s.is at c.trace_after_into.ensures.short_2 in
     table_row t (root_of s.second.now)
     (trail_root (compressed f.first.now rs.parents) t.head.count s.second.now a.b is-2 short-2)
 
@@ -65,11 +65,11 @@ returns-in_err-plan c =
     let rs = rows_seen t.seen in
     let f = c.in-Some in
     let v = c.live-live in
-    let is = (rw f.is at c.trace.ensures.result_value) ∙ live_path t v.result v.ensures.parents v.ensures.count a.a in
-    let short : Short f.first.now = rw f.is at c.trace.ensures.short in
-    let s = c.in-Some-trace_after in
-    let is-2 = (rw s.is at c.trace_after.ensures.result_value) ∙ live_after t v.result v.ensures.parents v.ensures.count a.b f.first.now in
-    let short-2 : Short s.second.now = rw s.is at c.trace_after.ensures.short_2 in
+    let is = (rw f.is at c.trace_into.ensures.result_value) ∙ live_path t v.result v.ensures.parents v.ensures.count a.a in
+    let short : Short f.first.now = rw f.is at c.trace_into.ensures.short in
+    let s = c.in-Some-trace_after_into in
+    let is-2 = (rw s.is at c.trace_after_into.ensures.result_value) ∙ live_after t v.result v.ensures.parents v.ensures.count a.b f.first.now in
+    let short-2 : Short s.second.now = rw s.is at c.trace_after_into.ensures.short_2 in
     let p = c.two_plan-verdict in
     let root-a = trail_root rs.parents t.head.count f.first.now a.a is short in
     let root-b = trail_root (compressed f.first.now rs.parents) t.head.count s.second.now a.b is-2 short-2 in
@@ -87,11 +87,11 @@ returns c =
     let rs = rows_seen t.seen in
     let f = c.in-Some in
     let v = c.live-live in
-    let is = (rw f.is at c.trace.ensures.result_value) ∙ live_path t v.result v.ensures.parents v.ensures.count a.a in
-    let short : Short f.first.now = rw f.is at c.trace.ensures.short in
-    let s = c.in-Some-trace_after in
-    let is-2 = (rw s.is at c.trace_after.ensures.result_value) ∙ live_after t v.result v.ensures.parents v.ensures.count a.b f.first.now in
-    let short-2 : Short s.second.now = rw s.is at c.trace_after.ensures.short_2 in
+    let is = (rw f.is at c.trace_into.ensures.result_value) ∙ live_path t v.result v.ensures.parents v.ensures.count a.a in
+    let short : Short f.first.now = rw f.is at c.trace_into.ensures.short in
+    let s = c.in-Some-trace_after_into in
+    let is-2 = (rw s.is at c.trace_after_into.ensures.result_value) ∙ live_after t v.result v.ensures.parents v.ensures.count a.b f.first.now in
+    let short-2 : Short s.second.now = rw s.is at c.trace_after_into.ensures.short_2 in
     let p = c.two_plan-verdict in
     let root-a = trail_root rs.parents t.head.count f.first.now a.a is short in
     let root-b = trail_root (compressed f.first.now rs.parents) t.head.count s.second.now a.b is-2 short-2 in

@@ -4,7 +4,7 @@ use Rattle.std.proofs.Common.{◌≡◌, ℕ, ◌≤◌, ◌<◌, ◌-◌, lengt
 use Rattle.rules.specs.Rules.{path}
 use Rattle.roots.specs.Trail.{compress}
 use Rattle.roots.proofs.PathLaws.{along}
-use Rattle.meeting.proofs.after.trace_after.Given as goal
+use Rattle.meeting.proofs.after.trace_after_into.Given as goal
 
 abbrev pub invariant-walk : goal.invariant-walk
 invariant-walk l =

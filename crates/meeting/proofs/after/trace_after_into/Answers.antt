@@ -1,8 +1,8 @@
 -- The ways on from the walk's head: out of the table, at a root, at the last redirect, and where the first path is met.
 use Rattle.std.proofs.Common.{◌∙◌, arith, length-set}
 use Rattle.meeting.proofs.MeetingLaws.{after_out, after_root, after_spent, after_more, on_spent, on_more}
-use Rattle.meeting.proofs.after.trace_after.Goals as goal
-use Rattle.meeting.proofs.after.trace_after.Goals.{else-walk-test, then-walk-test+then-loop-node-test+then-node-at, then-at-count-via-then-at-count, then-at-count-via-else-at-count+then-steps-eq16-2}
+use Rattle.meeting.proofs.after.trace_after_into.Goals as goal
+use Rattle.meeting.proofs.after.trace_after_into.Goals.{else-walk-test, then-walk-test+then-loop-node-test+then-node-at, then-at-count-via-then-at-count, then-at-count-via-else-at-count+then-steps-eq16-2}
 
 pub returns-then-parent-at-clause-result_value : goal.returns-then-parent-at-clause-result_value
 returns-then-parent-at-clause-result_value c =

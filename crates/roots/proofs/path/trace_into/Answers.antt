@@ -1,7 +1,7 @@
 -- The ways on from the loop's head.
 use Rattle.std.proofs.Common.{◌≡◌, ◌∙◌, sym, take, arith, length-set}
 use Rattle.roots.proofs.PathLaws.{along_broken, trace_root, trace_out, still_ahead, ahead_more}
-use Rattle.roots.proofs.path.trace.Goals as goal
+use Rattle.roots.proofs.path.trace_into.Goals as goal
 
 pub returns-then-at-count-clause-result_value : goal.returns-then-at-count-clause-result_value
 returns-then-at-count-clause-result_value c =

@@ -2,7 +2,7 @@
 use Rattle.std.proofs.Common.{◌≡◌, length, take}
 use Rattle.rules.specs.Rules.{path}
 use Rattle.roots.proofs.PathLaws.{along, ahead}
-use Rattle.roots.proofs.path.trace.Given as goal
+use Rattle.roots.proofs.path.trace_into.Given as goal
 
 abbrev pub invariant-loop-steps : goal.invariant-loop-steps
 invariant-loop-steps l =
