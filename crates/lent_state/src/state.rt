@@ -24,7 +24,7 @@ fn marks_in(numbers: &[u32], serials: &[u64]) -> [Mark; 32]
     marks
 }
 
-// The state that numbers are which are lent to be read alone.
+// The state of numbers that are lent to be read alone.
 pub fn state_of(numbers: &[u32], serials: &[u64]) -> State
     requires { Sized numbers.now serials.now }
     ensures { result ≡ state_of numbers.now serials.now }

@@ -6,6 +6,7 @@ ghost use Rattle.std.specs.Prelude.{◌≡◌, ◌++◌, ◌+◌, ◌-◌, ◌�
 pub fn put_path(path: &[u8], suffix: &[u8], buffer: &mut [u8]) -> usize
     ensures prefix_len { result ≤ length buffer.new }
     ensures buffer_after { length path.now + length suffix.now ≤ length buffer.old → take result buffer.new ≡ path.now ++ suffix.now }
+    ensures nothing { length buffer.old < length path.now + length suffix.now → (result ≡ 0) × (buffer.new ≡ buffer.old) }
 {
     let end = path.len() + suffix.len();
     if end > buffer.len() {

@@ -46,9 +46,9 @@ told false true h after = refl
 told false false h after = refl
 
 -- It is what the lengths of the state and of the result admit, by the rule of all results.
-pub replay_code : (h : Host) (bs : Bytes) → (serve_replay h bs).code ≡ result_admission (length h.numbers) (length h.serials) (length h.answers)
+pub code_admitted : (h : Host) (bs : Bytes) → (serve_replay h bs).code ≡ result_admission (length h.numbers) (length h.serials) (length h.answers)
 unfolding serve_replay result_admission
-replay_code h bs = told (stateless h) (eqb (length h.answers) RESULT) h (replay_served h bs)
+code_admitted h bs = told (stateless h) (eqb (length h.answers) RESULT) h (replay_served h bs)
 
 -- A replay in parts, as what the exported one leaves.
 pub as_served : (h : Host) (bs : Bytes) (ns ss : List ℕ) (rs : Rows) (l : Log) (result : List ℕ) (n place : ℕ) → Sized ns ss
