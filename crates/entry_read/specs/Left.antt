@@ -1,8 +1,9 @@
 -- What is left of a valid journal from a place on, where an entry or a trailer begins or the bytes end.
 use Rattle.std.specs.Prelude.{◌≡◌, ◌<◌}
-use Rattle.kit.specs.Names.{true, List, ℕ, length}
+use Rattle.kit.specs.Names.{true, List, map, ℕ, length}
 use Rattle.journal.specs.declared.entry.Entry.{Entry}
-use Rattle.journal.specs.Numbers.{ENTRY-BYTES}
+use Rattle.journal.specs.declared.entry.Entry.TheVariants.{EntryNew, EntryPost, EntryJoin, EntrySnapshot, EntryRollback, EntryCommit, NoEntry}
+use Rattle.journal.specs.Numbers.{ENTRY-BYTES, ENTRY-NEW, ENTRY-POST, ENTRY-JOIN, ENTRY-SNAPSHOT, ENTRY-ROLLBACK, ENTRY-COMMIT}
 use Rattle.journal.specs.Entry.{Bytes, little_at}
 use Rattle.journal.specs.Journal.{orderly}
 use Rattle.journal.specs.Forward.{forward, Onward}
@@ -10,6 +11,20 @@ use Rattle.journal.specs.Forward.{forward, Onward}
 -- Its entries.
 abbrev pub entries_from : Bytes → ℕ → List Entry
 entries_from bs at = forward (length bs) bs at (length bs)
+
+-- The number of an entry's kind.
+abbrev pub kind_of : Entry → ℕ
+kind_of (EntryNew owner amount) = ENTRY-NEW
+kind_of (EntryPost a owner amount) = ENTRY-POST
+kind_of (EntryJoin a b) = ENTRY-JOIN
+kind_of EntrySnapshot = ENTRY-SNAPSHOT
+kind_of EntryRollback = ENTRY-ROLLBACK
+kind_of EntryCommit = ENTRY-COMMIT
+kind_of NoEntry = 0
+
+-- The kinds of its entries.
+abbrev pub kinds_from : Bytes → ℕ → List ℕ
+kinds_from bs at = map kind_of (entries_from bs at)
 
 -- Up to the end nothing else stands than these and trailers, and each may stand where it does, so many snapshots being open at the place.
 pub record Left (bs : Bytes) (at : ℕ) : Type 0 where

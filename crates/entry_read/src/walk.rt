@@ -11,7 +11,7 @@ use little_endian::read::u32_at;
 
 // The place of the next entry, or the end. An entry begins with its kind, and a trailer, which is passed over, with its distance, which is
 // at least an entry's length, so what stands at a place says how far it is to the next one.
-fn past_trailers(bytes: &[u8], from: usize) -> usize
+pub(crate) fn past_trailers(bytes: &[u8], from: usize) -> usize
     requires { Left bytes.now from }
     ensures { Past bytes.now from result }
 {
