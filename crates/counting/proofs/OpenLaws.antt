@@ -10,12 +10,12 @@ use Rattle.journal.specs.Append.{segments_of, entries_of}
 use Rattle.journal.proofs.ReadLaws.{journal_chain}
 use Rattle.valid.specs.Place.{segments_told}
 use Rattle.valid.proofs.PlaceLaws.{told_right}
-use Rattle.entry_read.specs.Left.{kind_of}
+use Rattle.entry_read.specs.Left.{entry_kind}
 use Rattle.counting.specs.Counted.{open_past, may_pass, open_at_end}
 
 -- ---- by kinds
 
-may_same : (n : ℕ) (e : Entry) → may_stand n e ≡ true → may_pass n (kind_of e) ≡ true
+may_same : (n : ℕ) (e : Entry) → may_stand n e ≡ true → may_pass n (entry_kind e) ≡ true
 may_same n (EntryNew owner amount) h = refl
 may_same n (EntryPost a owner amount) h = refl
 may_same n (EntryJoin a b) h = refl
@@ -24,7 +24,7 @@ may_same n EntryRollback h = h
 may_same n EntryCommit h = h
 may_same n NoEntry h = refl
 
-open_same : (n : ℕ) (e : Entry) → open_then n e ≡ open_past n (kind_of e)
+open_same : (n : ℕ) (e : Entry) → open_then n e ≡ open_past n (entry_kind e)
 open_same n (EntryNew owner amount) = omega arith
 open_same n (EntryPost a owner amount) = omega arith
 open_same n (EntryJoin a b) = omega arith
@@ -41,17 +41,17 @@ unfoldable pub open_by : ℕ → List ℕ → ℕ
 open_by n [] = n
 open_by n (k ∷ ks) = open_by (open_past n k) ks
 
-ordered_same : (es : List Entry) (n : ℕ) → orderly n es ≡ true → ordered_by n (map kind_of es) ≡ true
+ordered_same : (es : List Entry) (n : ℕ) → orderly n es ≡ true → ordered_by n (map entry_kind es) ≡ true
 unfolding orderly ordered_by
 ordered_same [] n h = refl
 ordered_same (e ∷ es) n h =
     let p = and_parts (may_stand n e) (orderly (open_then n e) es) h in
     rw (may_same n e p.0, ← open_same n e) (ordered_same es (open_then n e) p.1)
 
-opened_same : (es : List Entry) (n : ℕ) → open_by n (map kind_of es) ≡ open_in n es
+opened_same : (es : List Entry) (n : ℕ) → open_by n (map entry_kind es) ≡ open_in n es
 unfolding open_in open_by
 opened_same [] n = refl
-opened_same (e ∷ es) n = ap (λ (m : ℕ). open_by m (map kind_of es)) (sym (open_same n e)) ∙ opened_same es (open_then n e)
+opened_same (e ∷ es) n = ap (λ (m : ℕ). open_by m (map entry_kind es)) (sym (open_same n e)) ∙ opened_same es (open_then n e)
 
 -- ---- the kinds that are left
 
@@ -59,7 +59,7 @@ pub record Counting (bs : Bytes) (rest : List ℕ) (n : ℕ) : Type 0 where
   pub ordered : ordered_by n rest ≡ true
   pub same : open_by n rest ≡ open_at_end bs
 
-pub counting_starts : (bs : Bytes) {rest : List ℕ} → valid bs ≡ true → rest ≡ map kind_of (entries_of (journal_of bs)) → Counting bs rest 0
+pub counting_starts : (bs : Bytes) {rest : List ℕ} → valid bs ≡ true → rest ≡ map entry_kind (entries_of (journal_of bs)) → Counting bs rest 0
 counting_starts bs {rest} v all =
     let es = entries_of (journal_of bs) in
     record {

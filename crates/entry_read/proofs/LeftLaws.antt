@@ -13,7 +13,7 @@ use Rattle.journal.proofs.ReadLaws.{journal_chain}
 use Rattle.journal.proofs.ForwardLaws.{onward_forward, journal_onward, NextEntry, at_entry, at_trailer, at_end, at_least_trailer}
 use Rattle.entries.specs.Most.{is_entry, made_of}
 use Rattle.entries.proofs.KindLaws.{Kind, new, post, join, snapshot, rollback, commit, none, kind_of_lem, no_entry, made}
-use Rattle.entry_read.specs.Left.{entries_from, kind_of, Left}
+use Rattle.entry_read.specs.Left.{entries_from, entry_kind, Left}
 
 stands_entry : (n : ℕ) (e : Entry) → may_stand n e ≡ true → is_entry e ≡ true
 stands_entry n (EntryNew owner amount) h = refl
@@ -27,7 +27,7 @@ stands_entry n NoEntry h = absurd (true≢false (sym h))
 -- ---- an entry begins with its kind
 
 kind_said : {kind : ℕ} (a b owner amount : ℕ) → Kind kind → is_entry (entry_of kind a b owner amount) ≡ true
-    → kind ≡ kind_of (made_of kind a b owner amount)
+    → kind ≡ entry_kind (made_of kind a b owner amount)
 kind_said a b owner amount new h = refl
 kind_said a b owner amount post h = refl
 kind_said a b owner amount join h = refl
@@ -37,14 +37,14 @@ kind_said a b owner amount commit h = refl
 kind_said a b owner amount (none {k} n1 n2 n3 n4 n5 n6) h =
     absurd (true≢false (sym h ∙ ap is_entry (no_entry k a b owner amount n1 n2 n3 n4 n5 n6)))
 
-pub kind_here : (bs : Bytes) (at : ℕ) → is_entry (read_entry bs at) ≡ true → little_at 4 bs at ≡ kind_of (read_entry bs at)
+pub kind_here : (bs : Bytes) (at : ℕ) → is_entry (read_entry bs at) ≡ true → little_at 4 bs at ≡ entry_kind (read_entry bs at)
 kind_here bs at h =
     let kind = little_at 4 bs at in
     let a = little_at 4 bs (at + 4) in
     let b = little_at 4 bs (at + 8) in
     let owner = little_at 4 bs (at + 12) in
     let amount = little_at 8 bs (at + 16) in
-    kind_said a b owner amount (kind_of_lem kind) h ∙ ap kind_of (made kind a b owner amount h)
+    kind_said a b owner amount (kind_of_lem kind) h ∙ ap entry_kind (made kind a b owner amount h)
 
 -- What a place leaves, however its entries are given.
 pub record Leaves (bs : Bytes) (at : ℕ) (es : List Entry) : Type 0 where

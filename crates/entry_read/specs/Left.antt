@@ -13,18 +13,18 @@ abbrev pub entries_from : Bytes → ℕ → List Entry
 entries_from bs at = forward (length bs) bs at (length bs)
 
 -- The number of an entry's kind.
-abbrev pub kind_of : Entry → ℕ
-kind_of (EntryNew owner amount) = ENTRY-NEW
-kind_of (EntryPost a owner amount) = ENTRY-POST
-kind_of (EntryJoin a b) = ENTRY-JOIN
-kind_of EntrySnapshot = ENTRY-SNAPSHOT
-kind_of EntryRollback = ENTRY-ROLLBACK
-kind_of EntryCommit = ENTRY-COMMIT
-kind_of NoEntry = 0
+abbrev pub entry_kind : Entry → ℕ
+entry_kind (EntryNew owner amount) = ENTRY-NEW
+entry_kind (EntryPost a owner amount) = ENTRY-POST
+entry_kind (EntryJoin a b) = ENTRY-JOIN
+entry_kind EntrySnapshot = ENTRY-SNAPSHOT
+entry_kind EntryRollback = ENTRY-ROLLBACK
+entry_kind EntryCommit = ENTRY-COMMIT
+entry_kind NoEntry = 0
 
 -- The kinds of its entries.
 abbrev pub kinds_from : Bytes → ℕ → List ℕ
-kinds_from bs at = map kind_of (entries_from bs at)
+kinds_from bs at = map entry_kind (entries_from bs at)
 
 -- Up to the end nothing else stands than these and trailers, and each may stand where it does, so many snapshots being open at the place.
 pub record Left (bs : Bytes) (at : ℕ) : Type 0 where

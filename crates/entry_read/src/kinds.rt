@@ -3,7 +3,7 @@ ghost use Rattle.std.specs.Prelude.{◌≡◌, true, map};
 ghost use Rattle.std.specs.Iterator.{YieldsFirst, item_count};
 ghost use Rattle.journal.specs.Journal.{journal_of, valid};
 ghost use Rattle.journal.specs.Append.{entries_of};
-ghost use Rattle.entry_read.specs.Left.{kind_of, kinds_from, Left};
+ghost use Rattle.entry_read.specs.Left.{entry_kind, kinds_from, Left};
 
 use crate::walk::past_trailers;
 use journal::entry::ENTRY_BYTES;
@@ -22,7 +22,7 @@ impl<'a> Kinds<'a> {
     pub fn new(bytes: &'a [u8]) -> Self
         requires { valid bytes.now ≡ true }
         ensures left { Left result.bytes.now result.at }
-        ensures all { kinds_from result.bytes.now result.at ≡ map kind_of (entries_of (journal_of bytes.now)) }
+        ensures all { kinds_from result.bytes.now result.at ≡ map entry_kind (entries_of (journal_of bytes.now)) }
     {
         Kinds { bytes, at: 0 }
     }
