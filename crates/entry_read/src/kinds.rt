@@ -9,8 +9,8 @@ use crate::walk::past_trailers;
 use journal::entry::ENTRY_BYTES;
 use little_endian::read::u32_at;
 
-// What is left of a valid journal, as in `Entries`, of which the kinds alone are read, as their numbers: who asks for no more is handed no `Entry`, which the compiled code jumps on
-// the kind to make (docs/BENCHMARKS.md, 'The journal').
+// What is left of a valid journal, as in `Entries`, but of each entry only its kind, as a number. Who asks for no more is handed no `Entry`: to
+// make one, the compiled code jumps on the kind (docs/BENCHMARKS.md, 'The journal').
 #[derive(Drop)]
 pub struct Kinds<'a> {
     bytes: &'a [u8],

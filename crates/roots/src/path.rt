@@ -12,8 +12,8 @@ pub struct Trail {
     pub nodes: [u32; 17],
 }
 
-// Follows the parents of `key` for at most 16 redirects, and writes nothing but the trail that it answers. That one lies with the caller: an
-// `Option<Trail>` was copied out of its `Option` right after its nodes were written, which took as long as a redirect (docs/BENCHMARKS.md).
+// Follows the parents of `key` for at most 16 redirects, and writes nothing but the trail that it answers, which lies with the caller: one
+// that is answered by value is copied out of its `Option` right after its nodes were written, and that is slow (docs/BENCHMARKS.md).
 pub fn trace_into<'a>(live: Live<'_>, key: u32, trail: &'a mut Trail) -> Option<&'a Trail>
     ensures result_value { let l = live.entry in
         traced (option_copied result) ≡ path l.parents.now l.count MAX-REDIRECTS key }

@@ -36,10 +36,10 @@ eight n =
     rw (seven, six, five, four, three, two)
 
 -- The library's bytes of a number, written.
-pub word : {cs ys : Bytes} (bs : Bytes) (at n : ℕ) → cs ≡ sets bs at ys → ys ≡ to_le_bytes w32 n → cs ≡ sets bs at (little_endian 4 n)
+word : {cs ys : Bytes} (bs : Bytes) (at n : ℕ) → cs ≡ sets bs at ys → ys ≡ to_le_bytes w32 n → cs ≡ sets bs at (little_endian 4 n)
 word bs at n e y = e ∙ ap (sets bs at) (y ∙ four n)
 
-pub long : {cs ys : Bytes} (bs : Bytes) (at n : ℕ) → cs ≡ sets bs at ys → ys ≡ to_le_bytes w64 n → cs ≡ sets bs at (little_endian 8 n)
+long : {cs ys : Bytes} (bs : Bytes) (at n : ℕ) → cs ≡ sets bs at ys → ys ≡ to_le_bytes w64 n → cs ≡ sets bs at (little_endian 8 n)
 long bs at n e y = e ∙ ap (sets bs at) (y ∙ eight n)
 
 -- ---- numbers one after the other
