@@ -1,20 +1,16 @@
 -- Entry by entry. All but a rollback and a commit are about no mark.
 use Rattle.std.specs.Prelude.{◌≡◌, None}
-use Rattle.kit.specs.Names.{refl, Bool, true, false, cond}
-use Rattle.rules.specs.Rules.{Call, Sought, State}
+use Rattle.kit.specs.Names.{refl, ap}
+use Rattle.rules.specs.Rules.{Call, State}
 use Rattle.rules.specs.declared.call.Call.TheVariants.{New, Len, Join, Post, Snapshot}
 use Rattle.undo_log.specs.Settled.{mark_of, mark_for}
 use Rattle.layout.specs.Lent.{state_under}
+use Rattle.layout.proofs.LayoutLaws.{no_mark}
 use Rattle.entry_calls.specs.Ready.{ready}
 use Rattle.entry_calls.proofs.ready.ready_for.Goals as goal
 
-none_anyhow : (b : Bool) → ◌≡◌ {A = Sought} (cond b None None) None
-none_anyhow true = refl
-none_anyhow false = refl
-
-without_mark : (s : State) (c : Call) → mark_of s c ≡ None → ready c None ≡ ready c (mark_for s c)
-unfolding mark_for
-without_mark s c m = rw (m, none_anyhow _) refl
+without_mark : (s : State) (c : Call) → None ≡ mark_of s c → ready c None ≡ ready c (mark_for s c)
+without_mark s c q = ap (ready c) (no_mark s c q)
 
 pub returns-in-EntryNew : goal.returns-in-EntryNew
 returns-in-EntryNew c =
